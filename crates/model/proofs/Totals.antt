@@ -42,12 +42,12 @@ compute-is x =
     elim (cases-lt 0 (x .count)) [
       | inl some ↦ let f = ap (sum-below (segment-cost x)) (let e : suc ((x .count - 1) + 0) ≡ x .count = omega arith in e) in omega (arith, s, f)
       | inr none ↦
-        let z : x .count ≡ 0 = omega arith in
-        let f = ap (sum-below (segment-cost x)) z in
-        let g = ap (λ k. segment-cost x (k - 1) + 0) z in
-        let h = ap (λ k. all-ticks (segments-from x (k - 1) 0)) z in
-        let n = cond-false (ltb 0 (x .count)) (getD (x .costs) 0 0) 0 (le-ltb 0 (x .count) none) in
-        omega (arith, f, h, n)
+          let z : x .count ≡ 0 = omega arith in
+          let f = ap (sum-below (segment-cost x)) z in
+          let g = ap (λ k. segment-cost x (k - 1) + 0) z in
+          let h = ap (λ k. all-ticks (segments-from x (k - 1) 0)) z in
+          let n = cond-false (ltb 0 (x .count)) (getD (x .costs) 0 0) 0 (le-ltb 0 (x .count) none) in
+          omega (arith, f, h, n)
     ]
 
 pub suspend-is : (x : Segmented) → sum-below (suspension-most x) (x .count - 1) ≡ most-gaps (segments-of x)
