@@ -4,14 +4,12 @@ use mathlib.Core.Bool.{Bool, true, false, _||_}
 use mathlib.Core.List.{List, [], _∷_, _++_}
 use Prim.Native.Nat.{ℕ, zero, suc, _+_, _<_, _≤_}
 use native.Mathlib.Omega.{arith}
-use lib.Dec.{eqb, leb}
-use lib.ListN.{length, length-take, take, drop, getD}
+use lib.Dec.{eqb}
+use lib.ListN.{length, take, drop, getD}
 use Rattle.std.proofs.shelf.Lists.{take-more, take-append-drop}
-use Rattle.std.proofs.shelf.Tests.{or-from, or-left, or-right, or-parts, or-cases, le-leb}
+use Rattle.std.proofs.shelf.Tests.{or-from, or-left, or-right, or-parts, or-cases}
 use Rattle.model.specs.Rows.{Kind}
-use Rattle.std.specs.declared.option.Option.the-variants.{Some}
-use Rattle.table.specs.declared.refusal.Refusal.the-variants.{TableFull}
-use Rattle.table.specs.Tables.{has-id, append-fault, plan-fault}
+use Rattle.table.specs.Tables.{has-id}
 
 module _ {R : Type 0} (kind : Kind R) (id : ℕ) where
   none-push : (xs : List R) (x : R) → has-id kind id xs ≡ false → eqb (kind .ident x) id ≡ false → has-id kind id (xs ++ x ∷ []) ≡ false
@@ -27,10 +25,3 @@ module _ {R : Type 0} (kind : Kind R) (id : ℕ) where
   one-here (y ∷ ys) zero i x l m e f = absurd (omega arith)
   one-here (y ∷ ys) (suc count) zero x l m e f = or-left _ _ (ap (λ (z : R). eqb (kind .ident z) id) (sym e) ∙ f)
   one-here (y ∷ ys) (suc count) (suc i) x l m e f = or-right _ _ (one-here ys count i x (omega arith) (omega arith) e f)
-
--- a table of 32 rows is full
-pub full : {R : Type 0} (kind : Kind R) (rows : List R) (count : ℕ) (row : R) → 32 ≤ length rows → 32 ≤ count → append-fault kind rows count row ≡ Some (plan-fault TableFull count)
-full kind rows count row m l =
-    let long : leb 32 (length (take count rows)) ≡ true = le-leb _ _ (omega (arith, length-take count rows)) in
-    let enough : leb 32 (length rows) ≡ true = le-leb _ _ m in
-    rw (enough, long) refl

@@ -1,2 +1,3 @@
 pub mod Blanks
 pub mod Ids
+pub mod Appends

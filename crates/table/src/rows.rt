@@ -29,16 +29,28 @@ pub fn append<R: Row>(rows: &mut [R], count: usize, row: R) -> Result<(), PlanFa
     ensures { λ r. ⌜ Appended (R·Row .meaning) (now (rows .entry)) count row (now (rows .exit)) r ⌝ }
 {
     if rows.len() < CAPACITY {
-        return Err(PlanFault { refusal: Refusal::ShortMemory, place: 0 });
+        return Err(PlanFault {
+            refusal: Refusal::ShortMemory,
+            place: 0,
+        });
     }
     if count >= CAPACITY {
-        return Err(PlanFault { refusal: Refusal::TableFull, place: count });
+        return Err(PlanFault {
+            refusal: Refusal::TableFull,
+            place: count,
+        });
     }
     if !row.is_lawful() {
-        return Err(PlanFault { refusal: Refusal::RowUnlawful, place: count });
+        return Err(PlanFault {
+            refusal: Refusal::RowUnlawful,
+            place: count,
+        });
     }
     if holds_id(rows, count, row.id()) {
-        return Err(PlanFault { refusal: Refusal::IdTaken, place: count });
+        return Err(PlanFault {
+            refusal: Refusal::IdTaken,
+            place: count,
+        });
     }
     rows[count] = row;
     Ok(())

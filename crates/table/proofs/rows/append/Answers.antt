@@ -1,5 +1,5 @@
 use mathlib.Core.Path.{refl}
-use Rattle.table.proofs.Ids.{full}
+use Rattle.table.proofs.Appends.{full}
 use Rattle.table.proofs.rows.append.Needs as need
 
 pub returns-then-count-ge-CAPACITY : need.returns-then-count-ge-CAPACITY

@@ -1,0 +1,4 @@
+pub mod Total
+pub mod Steps
+pub mod Sheets
+pub mod Firsts
