@@ -1,0 +1,10 @@
+pub mod Bags
+pub mod Outcomes
+pub mod Levels
+pub mod Shuffle
+pub mod Optimal
+pub mod Pools
+pub mod MaskedPools
+pub mod Invariants
+pub mod Steps
+pub mod Verdicts

@@ -1,0 +1,3 @@
+pub mod Assignment
+pub mod Laws
+pub mod Search
