@@ -1,1 +1,5 @@
 pub mod CeilingRules
+pub mod Sequences
+pub mod SegmentWindows
+pub mod Phases
+pub mod SegmentRules
