@@ -3,3 +3,5 @@ pub mod Sequences
 pub mod SegmentWindows
 pub mod Phases
 pub mod SegmentRules
+pub mod Periods
+pub mod RowSegments

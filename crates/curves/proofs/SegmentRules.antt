@@ -1,5 +1,5 @@
 -- The segment curve keeps the rules of curves, for every way to read rows as segmented rows. Assumes nothing.
-use mathlib.Core.Path.{_≡_, refl, ap, sym, subst}
+use mathlib.Core.Path.{_≡_, refl, ap, ap₂, sym, subst, _∙_}
 use mathlib.Core.Logic.{_⊎_, inl, inr}
 use mathlib.Core.Bool.{true, false, cond}
 use mathlib.Core.List.{List, [], _∷_}
@@ -9,7 +9,7 @@ use native.Mathlib.Omega.{arith}
 use lib.Dec.{leb, ltb}
 use lib.ListN.{length}
 use Rattle.std.specs.shelf.Lists.{All}
-use Rattle.std.proofs.shelf.Tests.{cases-lt, cases-bool, cond-true, cond-false, cond-both, and-parts, leb-true, ltb-true, ltb-false}
+use Rattle.std.proofs.shelf.Tests.{cases-lt, cases-bool, cond-true, cond-false, cond-both, and-parts, leb-true, ltb-true, ltb-false, lt-ltb, le-ltb}
 use Rattle.model.specs.Runs.{Job, Task, Run, ran, used, Level}
 use Rattle.model.specs.Rows.{Kind, Bounds, limit}
 use Rattle.model.specs.LawfulRuns.{Lawful, LawfulTask, NoLate}
@@ -60,6 +60,25 @@ greatest-peak work zero =
       lowest = λ h l. absurd (omega arith);
     }
 greatest-peak work (suc m) = peak-more work m (greatest work m) (greatest-peak work m)
+
+-- one number more, as a loop counts
+greatest-step : (work : ℕ → ℕ) (m : ℕ) (best : ℕ × ℕ) (here : ℕ) → 1 ≤ m → best ≡ greatest work (m - 1) → here ≡ work m
+    → greatest work ((m + 1) - 1) ≡ cond (ltb (best .0) here) (here, m) best
+greatest-step work m best here some is at =
+    let last : suc (m - 1) ≡ m = omega arith in
+    ap (greatest work) (let e : (m + 1) - 1 ≡ suc (m - 1) = omega arith in e)
+    ∙ ap (λ k. cond (ltb (greatest work (m - 1) .0) (work k)) (work k, k) (greatest work (m - 1))) last
+    ∙ ap₂ (λ (y : ℕ) (b : ℕ × ℕ). cond (ltb (b .0) y) (y, m) b) (sym at) (sym is)
+
+pub greatest-higher : (work : ℕ → ℕ) (m : ℕ) (best : ℕ × ℕ) (here : ℕ) → 1 ≤ m → best ≡ greatest work (m - 1) → here ≡ work m
+    → best .0 < here → (here, m) ≡ greatest work ((m + 1) - 1)
+greatest-higher work m best here some is at more-work =
+    sym (greatest-step work m best here some is at ∙ cond-true (ltb (best .0) here) (here, m) best (lt-ltb (best .0) here more-work))
+
+pub greatest-kept : (work : ℕ → ℕ) (m : ℕ) (best : ℕ × ℕ) (here : ℕ) → 1 ≤ m → best ≡ greatest work (m - 1) → here ≡ work m
+    → here ≤ best .0 → best ≡ greatest work ((m + 1) - 1)
+greatest-kept work m best here some is at no-more =
+    sym (greatest-step work m best here some is at ∙ cond-false (ltb (best .0) here) (here, m) best (le-ltb (best .0) here no-more))
 
 peak-alike : (M : ℕ) (work other : ℕ → ℕ) (r : ℕ × ℕ) → ((h : ℕ) → h < M → work h ≡ other h) → Peak M work r → Peak M other r
 peak-alike M work other r same p =
@@ -138,7 +157,7 @@ module _ {R : Type 0} (shape : Shape R) where
               arith,
               work-lawful x t l,
               greatest-most (row-work shape x (min t limit)) (count (shape .segments x) - 1) (min t limit)
-              (work-small (shape .segments x) (shape .period x) (shape .deadline x) (min t limit)),
+                  (work-small (shape .segments x) (shape .period x) (shape .deadline x) (min t limit)),
             )
         | inr n ↦ omega (arith, work-other x t n)
       ]
@@ -211,8 +230,8 @@ module _ {R : Type 0} (shape : Shape R) where
       record {
         unlawful = work-other;
         flat = λ x t h.
-        let same : min t limit ≡ min limit limit = omega arith in
-        ap (λ u. cond (segmented-lawful shape x) (best x u) (0, 0) .0) same;
+            let same : min t limit ≡ min limit limit = omega arith in
+            ap (λ u. cond (segmented-lawful shape x) (best x u) (0, 0) .0) same;
       }
 
   pub by-number : (x : R) (t : ℕ) → PeakOfPhases shape x t (segment-peak shape x t)
@@ -225,5 +244,5 @@ module _ {R : Type 0} (shape : Shape R) where
       let all : suc (count s - 1) ≡ count s = omega (arith, some-segments s) in
       subst (λ r. Peak (count s) (λ h. work-from s T D n h (min t limit)) r) (sym (at-lawful x t l))
       (peak-alike (count s) (row-work shape x (min t limit)) (λ h. work-from s T D n h (min t limit)) (best x (min t limit))
-        (λ h k. sym (enough-same s T D (b .some-cost) (min t limit) n h k enough))
-        (subst (λ M. Peak M (row-work shape x (min t limit)) (best x (min t limit))) all found))
+      (λ h k. sym (enough-same s T D (b .some-cost) (min t limit) n h k enough))
+      (subst (λ M. Peak M (row-work shape x (min t limit)) (best x (min t limit))) all found))

@@ -148,7 +148,7 @@ module _ (f : ℕ → ℕ) (c : Counts f) where
   -- ---- jobs of such patterns
 
   module _ (s : Segments) (T : ℕ) (gap : ℕ → ℕ) (some : 1 ≤ T) (room : all-ticks s + least-gaps s ≤ T)
-    (short-gaps : (q : ℕ) → gap q ≤ T - (all-ticks s + least-gaps s)) where
+      (short-gaps : (q : ℕ) → gap q ≤ T - (all-ticks s + least-gaps s)) where
     abbrev pub AllFit : List Job → Type 0
     AllFit jobs = All (λ j. Fits s (j .pattern)) jobs
 

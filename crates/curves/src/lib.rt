@@ -2,3 +2,4 @@
 // and which rules it keeps; a curve serves the rows of a kind, and a feasibility test is built over any curve.
 pub mod ceiling;
 pub mod curve;
+pub mod segment_curve;
