@@ -1,1 +1,3 @@
 pub mod Curves
+pub mod CeilingCurve
+pub mod SegmentCurve

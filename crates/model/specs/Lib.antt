@@ -6,3 +6,5 @@ pub mod WholeRows
 pub mod Runs
 pub mod LawfulRuns
 pub mod Bags
+pub mod RunLaws
+pub mod WorkedRun

@@ -3,5 +3,6 @@
 // whole rows, which have only the totals. The patterns that a job may follow and the rules that every kind keeps stand in specs/.
 pub mod limits;
 pub mod row;
+pub mod runs;
 pub mod segmented;
 pub mod whole;
