@@ -1,5 +1,6 @@
 // Feasibility tests: a response-time bound for a task under a set of tasks above it, or none. The trait `Test` says what every test offers
 // and which rules it keeps. A test is asked with a table of rows, the place of the task, and the set of places above it as a 32-bit number.
+pub mod laws;
 pub mod letter;
 pub mod mask;
 pub mod test;
