@@ -6,3 +6,5 @@ pub mod WholeJobs
 pub mod Betters
 pub mod Pieces
 pub mod Orders
+pub mod Sets
+pub mod Jumps

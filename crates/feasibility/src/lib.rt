@@ -3,4 +3,5 @@
 pub mod laws;
 pub mod letter;
 pub mod mask;
+pub mod smallest;
 pub mod test;
