@@ -8,3 +8,4 @@ pub mod Pieces
 pub mod Orders
 pub mod Sets
 pub mod Jumps
+pub mod Questions

@@ -3,5 +3,6 @@
 pub mod laws;
 pub mod letter;
 pub mod mask;
+pub mod question;
 pub mod smallest;
 pub mod test;
