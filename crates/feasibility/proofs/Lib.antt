@@ -9,3 +9,4 @@ pub mod Orders
 pub mod Sets
 pub mod Jumps
 pub mod Questions
+pub mod Parts

@@ -20,7 +20,7 @@ use Rattle.model.specs.LawfulRuns.{Lawful, LawfulTask, NoLate}
 use Rattle.curves.specs.Curves.{Workload, CurveRules}
 use Rattle.feasibility.specs.Tests.{TestRules, AtMost}
 use Rattle.feasibility.specs.Windows.{least, fits}
-use Rattle.feasibility.specs.Pieces.{plus, sum-of, up-to, piecewise, piecewise-answers}
+use Rattle.feasibility.specs.Pieces.{plus, sum-of, up-to, part, piecewise, piecewise-answers}
 use Rattle.model.proofs.Marks.{Counts, met}
 use Rattle.model.proofs.Ticks.{some-same, none-some, counts, higher, higher-up, busy}
 use Rattle.model.proofs.Jobs.{Busy, EndIn, all-in-time}
@@ -111,26 +111,26 @@ module _ {R : Type 0} (shape : Shape R) (w : Workload R) (rules : CurveRules (se
   abbrev kind : Kind R
   kind = segmented shape
 
-  -- r[j], by the ticks of segment j
-  abbrev part : R → List R → ℕ → Option ℕ
-  part x A c = least (fits (w .ticks) c A) (shape .deadline x)
+  -- r[j] of the row, by the ticks of segment j
+  abbrev part-of : R → List R → ℕ → Option ℕ
+  part-of x A c = part (w .ticks) (shape .deadline x) A c
 
   abbrev total : R → List R → Option ℕ
-  total x A = plus (Some (most-gaps (shape .segments x))) (sum-of (part x A) (shape .segments x))
+  total x A = plus (Some (most-gaps (shape .segments x))) (sum-of (part-of x A) (shape .segments x))
 
   record Bound (x : R) (A : List R) (b : ℕ) : Type 0 where
     lawful : all-lawful kind (x ∷ A) ≡ true
     row-lawful : kind .lawful x ≡ true
     in-deadline : b ≤ shape .deadline x
     pieces : ℕ
-    found : sum-of (part x A) (shape .segments x) ≡ Some pieces
+    found : sum-of (part-of x A) (shape .segments x) ≡ Some pieces
     is : b ≡ most-gaps (shape .segments x) + pieces
 
   bound : (x : R) (A : List R) (b : ℕ) → piecewise shape (w .ticks) x A ≡ Some b → Bound x A b
   bound x A b e =
       let (l, e₁) = cond-some (all-lawful kind (x ∷ A)) _ b e in
       let (e₂, within) = up-to-parts (shape .deadline x) (total x A) b e₁ in
-      let (t, u, e₃, e₄, sums) = plus-parts (Some (most-gaps (shape .segments x))) (sum-of (part x A) (shape .segments x)) b e₂ in
+      let (t, u, e₃, e₄, sums) = plus-parts (Some (most-gaps (shape .segments x))) (sum-of (part-of x A) (shape .segments x)) b e₂ in
       record {
         lawful = l;
         row-lawful = and-parts (kind .lawful x) (all-lawful kind A) l .0;
@@ -141,7 +141,7 @@ module _ {R : Type 0} (shape : Shape R) (w : Workload R) (rules : CurveRules (se
       }
 
   -- a part covers its segment and what the rows above run in it
-  part-enough : (x : R) (A : List R) (c t : ℕ) → part x A c ≡ Some t → (c + sumBy (λ y. w .ticks y t) A ≤ t) × (t ≤ shape .deadline x)
+  part-enough : (x : R) (A : List R) (c t : ℕ) → part-of x A c ≡ Some t → (c + sumBy (λ y. w .ticks y t) A ≤ t) × (t ≤ shape .deadline x)
   part-enough x A c t e =
       let found = least-found (fits (w .ticks) c A) (shape .deadline x) t e in
       (leb-true (c + sumBy (λ y. w .ticks y t) A) t (found .passes), found .within)
@@ -156,18 +156,18 @@ module _ {R : Type 0} (shape : Shape R) (w : Workload R) (rules : CurveRules (se
   fewer x A B b e r =
       let ok = bound x A b e in
       let (lx, lA) = and-parts (kind .lawful x) (all-lawful kind A) (ok .lawful) in
-      let sooner : (c t : ℕ) → part x A c ≡ Some t → AtMost (part x B c) t =
+      let sooner : (c t : ℕ) → part-of x A c ≡ Some t → AtMost (part-of x B c) t =
       λ c t. least-sooner (fits (w .ticks) c A) (fits (w .ticks) c B) (shape .deadline x) t
       (λ u ok. le-leb (c + sumBy (λ y. w .ticks y u) B) u (omega (arith, leb-true (c + sumBy (λ y. w .ticks y u) A) u ok, sum-part (λ y. w .ticks y u) r))) in
-      let (t, e₁, l) = plus-most (Some (most-gaps (shape .segments x))) (sum-of (part x B) (shape .segments x)) (most-gaps (shape .segments x)) (ok .pieces)
-      (most-gaps (shape .segments x), refl, omega arith) (sum-sooner (part x A) (part x B) sooner (shape .segments x) (ok .pieces) (ok .found)) in
+      let (t, e₁, l) = plus-most (Some (most-gaps (shape .segments x))) (sum-of (part-of x B) (shape .segments x)) (most-gaps (shape .segments x)) (ok .pieces)
+      (most-gaps (shape .segments x), refl, omega arith) (sum-sooner (part-of x A) (part-of x B) sooner (shape .segments x) (ok .pieces) (ok .found)) in
       let (t′, e₂, l′) = up-to-most (shape .deadline x) (total x B) b (t, e₁, omega (arith, ok .is)) (ok .in-deadline) in
       (t′, ap (λ v. cond v (up-to (shape .deadline x) (total x B)) None) (and-from (kind .lawful x) (all-lawful kind B) lx (lawful-part kind r lA)) ∙ e₂, l′)
 
   in-deadline : (x : R) (A : List R) (b : ℕ) → piecewise shape (w .ticks) x A ≡ Some b → (1 ≤ b) × (b ≤ shape .deadline x)
   in-deadline x A b e =
       let ok = bound x A b e in
-      let covers = sum-covers (part x A) (λ c t e. omega (arith, part-enough x A c t e)) (shape .segments x) (ok .pieces) (ok .found) in
+      let covers = sum-covers (part-of x A) (λ c t e. omega (arith, part-enough x A c t e)) (shape .segments x) (ok .pieces) (ok .found) in
       (omega (arith, ok .is, kind .r1 x (ok .row-lawful) .some-cost), ok .in-deadline)
 
   all-fit : (x : R) (jobs : List Job) → All (λ j. keeps-ranges (shape .segments x) (j .pattern) ≡ true) jobs → All (λ j. Fits (shape .segments x) (j .pattern)) jobs
@@ -185,13 +185,13 @@ module _ {R : Type 0} (shape : Shape R) (w : Workload R) (rules : CurveRules (se
       let f : ℕ → ℕ = ran (run .ticks) k in
       let h : ℕ → ℕ = higher (run .ticks) k in
       let H : ℕ = length (run .ticks) in
-      let enough : (q t : ℕ) → part x (above run k) q ≡ Some t → (s : ℕ) → s + t ≤ H → q + h (s + t) ≤ t + h s =
+      let enough : (q t : ℕ) → part-of x (above run k) q ≡ Some t → (s : ℕ) → s + t ≤ H → q + h (s + t) ≤ t + h s =
       λ q t found s lasts.
       let fits-in = part-enough x (above run k) q t found in
       omega (arith, fits-in, above-bound kind w rules run law k task at no-late s t (omega (arith, fits-in, limits))) in
       let kept : Kept run k task (most-gaps (shape .segments x) + ok .pieces) =
       all-in-time f h (Fits (shape .segments x)) H (shape .period x) (most-gaps (shape .segments x) + ok .pieces) (omega (arith, ok .is, ok .in-deadline, limits))
-      (pieces-in-time (part x (above run k)) f h (counts (run .ticks) k) (higher-up (run .ticks) k) H enough (shape .segments x) (ok .pieces) (ok .found))
+      (pieces-in-time (part-of x (above run k)) f h (counts (run .ticks) k) (higher-up (run .ticks) k) H enough (shape .segments x) (ok .pieces) (ok .found))
       (task .jobs) 0 0 (omega arith) (mine .spaced) (all-fit x (task .jobs) (mine .allowed)) (busy kind run law k task at) in
       subst (λ y. Kept run k task y) (sym (ok .is)) kept
 

@@ -27,12 +27,16 @@ abbrev pub up-to : ℕ → Option ℕ → Option ℕ
 up-to d None = None
 up-to d (Some b) = cond (leb b d) (Some b) None
 
--- r[j] is the smallest t ≤ D with C[j] + (curves of A at t) ≤ t, and the bound is S plus all r[j], if that is at most D
+-- r[j], by the ticks of segment j: the smallest t ≤ D with C[j] + (curves of A at t) ≤ t
+abbrev pub part : {R : Type 0} → (R → ℕ → ℕ) → ℕ → List R → ℕ → Option ℕ
+part ticks D A c = least (fits ticks c A) D
+
+-- the bound is S plus all r[j], if that is at most D
 abbrev pub piecewise : {R : Type 0} → Shape R → (R → ℕ → ℕ) → R → List R → Option ℕ
 piecewise shape ticks x A =
     let s = shape .segments x in
     let D = shape .deadline x in
-    cond (all-lawful (segmented shape) (x ∷ A)) (up-to D (plus (Some (most-gaps s)) (sum-of (λ c. least (fits ticks c A) D) s))) None
+    cond (all-lawful (segmented shape) (x ∷ A)) (up-to D (plus (Some (most-gaps s)) (sum-of (part ticks D A) s))) None
 
 -- the test: its letter is A, whatever the curve is
 abbrev pub piecewise-answers : {R : Type 0} → Shape R → Workload R → Answers R

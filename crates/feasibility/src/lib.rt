@@ -4,6 +4,7 @@ pub mod better;
 pub mod laws;
 pub mod letter;
 pub mod mask;
+pub mod piecewise;
 pub mod question;
 pub mod smallest;
 pub mod test;
