@@ -8,7 +8,7 @@ use lib.ListN.{length, getD}
 use Rattle.std.specs.shelf.Lists.{kept-by}
 use Rattle.std.specs.declared.option.Option.{Option}
 use Rattle.std.specs.declared.option.Option.the-variants.{Some, None}
-use Rattle.model.specs.Rows.{Kind}
+use Rattle.model.specs.Rows.{Kind, all-lawful}
 use Rattle.feasibility.specs.Tests.{Answers}
 
 -- the places of a table of n rows, in table order: 0 to n - 1
@@ -48,6 +48,10 @@ rows-in kind rows mask = map (row-of kind rows) (in-mask mask (length rows))
 -- in a table of `count` rows: the place and the mask are of the table, and the place is not in the mask
 abbrev pub askable : ℕ → ℕ → ℕ → Bool
 askable count place above = ltb place count && (ltb above (2 ^ count) && not (has above place))
+
+-- such a question about lawful rows alone
+abbrev pub lawful-question : {R : Type 0} → Kind R → List R → ℕ → ℕ → Bool
+lawful-question kind rows place above = askable (length rows) place above && all-lawful kind (row-of kind rows place ∷ rows-in kind rows above)
 
 -- what the test answers of the row at the place, with the rows of the mask above it
 abbrev pub asked : {R : Type 0} → Kind R → Answers R → List R → ℕ → ℕ → Option ℕ

@@ -1,0 +1,5 @@
+use Rattle.feasibility.proofs.Betters.{better-test}
+use Rattle.feasibility.proofs.better.BetterTest.the-impl.Needs as need
+
+pub keeps-law : need.keeps-law
+keeps-law g = better-test (g .R·Row .meaning) (g .P·Test .answers) (g .Q·Test .answers) (g .P·Test·met .keeps) (g .Q·Test·met .keeps)
