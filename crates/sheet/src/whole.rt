@@ -10,7 +10,13 @@ use crate::draft::Draft;
 use crate::operands::four;
 use crate::operands::operands;
 use crate::operands::two;
+use curves::ceiling::Ceiling;
+use curves::ceiling::CeilingCurve;
+use feasibility::letter::letter_of;
+use feasibility::whole_job::WholeJob;
+use feasibility::whole_job::WholeJobTest;
 use model::whole::Whole;
+use model::whole::WholeRow;
 
 // A whole row is one command, so nothing is left over between commands.
 #[derive(Clone, Copy)]
@@ -28,7 +34,7 @@ pub impl Draft<Whole> for WholeDraft as WholeSheet {
     }
 
     fn takes_letter(letter: u8) -> bool {
-        letter == b'J'
+        letter == letter_of::<Whole, WholeJob<Ceiling>>()
     }
 
     fn start() -> WholeDraft {

@@ -17,6 +17,17 @@ use crate::operands::operands;
 use crate::operands::two;
 use crate::segmented::SegmentedDraft;
 use crate::segmented::Stage;
+use curves::ceiling::Ceiling;
+use curves::ceiling::CeilingCurve;
+use curves::segment_curve::SegmentCurve;
+use curves::segment_curve::SegmentedCurve;
+use feasibility::better::Better;
+use feasibility::better::BetterTest;
+use feasibility::letter::letter_of;
+use feasibility::piecewise::Piecewise;
+use feasibility::piecewise::PiecewiseTest;
+use feasibility::whole_job::WholeJob;
+use feasibility::whole_job::WholeJobTest;
 use model::row::Row;
 use model::segmented::Segmented;
 use model::segmented::rules::SegmentedRow;
@@ -33,7 +44,10 @@ pub impl Draft<Segmented> for SegmentedDraft as SegmentedSheet {
     }
 
     fn takes_letter(letter: u8) -> bool {
-        letter == b'C' || letter == b'A' || letter == b'J' || letter == b'B'
+        letter == letter_of::<Segmented, WholeJob<SegmentCurve>>()
+            || letter == letter_of::<Segmented, Piecewise<SegmentCurve>>()
+            || letter == letter_of::<Segmented, WholeJob<Ceiling>>()
+            || letter == letter_of::<Segmented, Better<WholeJob<SegmentCurve>, Piecewise<SegmentCurve>>>()
     }
 
     fn start() -> SegmentedDraft {
