@@ -1,4 +1,7 @@
 // The program: a sheet on standard input, its order with bounds or its refusal on standard output.
+ghost use Prim.Native.Nat.{_≤_};
+ghost use lib.ListN.{length};
+ghost use Rattle.std.specs.Vec.{made};
 use planning::plan_sheet;
 use std::error::AnyError;
 use std::io;
@@ -9,7 +12,9 @@ use std::io::Write;
 const SHEET_BYTES: usize = 4096;
 
 // Fills the buffer from standard input, as far as that goes. How many bytes there are.
-fn take_input(rt: &LibcRuntime, buffer: &mut [u8]) -> io::Result<usize> {
+fn take_input(rt: &LibcRuntime, buffer: &mut [u8]) -> io::Result<usize>
+    ensures { λ r. ⌜ made r (λ n. n ≤ length (now (buffer .entry))) ⌝ }
+{
     let mut stdin = rt.stdin();
     let mut length = 0;
     for _ in 0..SHEET_BYTES {

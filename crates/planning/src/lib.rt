@@ -1,6 +1,8 @@
 // From a sheet's bytes to its report's bytes: the sheet is read, its tasks are arranged by the test that its letter names, and the order or the
 // refusal is reported.
 ghost use Prim.Native.Nat.{_≤_};
+ghost use lib.ListN.{length};
+ghost use Rattle.std.specs.Vec.{made};
 use assign::order::NoOrder;
 use assign::search::assign;
 use curves::ceiling::Ceiling;
@@ -33,6 +35,7 @@ use table::fault::Fault;
 // Arranges the first tasks of the rows, and reports the order or that none is found.
 fn report_arranged<R: Row, Q: Test<R>>(test: &Q, rows: &[R; 32], tasks: usize, memory: &mut [u8]) -> Result<usize, Fault>
     requires { ⌜ tasks ≤ 32 ⌝ }
+    ensures { λ r. ⌜ made r (λ n. n ≤ length (now (memory .entry))) ⌝ }
 {
     let mut order = [0u8; 32];
     let mut bounds = [0u32; 32];
@@ -47,7 +50,9 @@ fn report_arranged<R: Row, Q: Test<R>>(test: &Q, rows: &[R; 32], tasks: usize, m
 }
 
 // A sheet of segmented rows.
-fn plan_segmented(sheet: &[u8], memory: &mut [u8]) -> Result<usize, Fault> {
+fn plan_segmented(sheet: &[u8], memory: &mut [u8]) -> Result<usize, Fault>
+    ensures { λ r. ⌜ made r (λ n. n ≤ length (now (memory .entry))) ⌝ }
+{
     let mut rows = [Segmented::blank(); 32];
     match parse_sheet::<Segmented, SegmentedDraft>(sheet, &mut rows) {
         Err(fault) => report_refusal(fault, memory),
@@ -67,7 +72,9 @@ fn plan_segmented(sheet: &[u8], memory: &mut [u8]) -> Result<usize, Fault> {
 }
 
 // A sheet of whole rows.
-fn plan_whole(sheet: &[u8], memory: &mut [u8]) -> Result<usize, Fault> {
+fn plan_whole(sheet: &[u8], memory: &mut [u8]) -> Result<usize, Fault>
+    ensures { λ r. ⌜ made r (λ n. n ≤ length (now (memory .entry))) ⌝ }
+{
     let mut rows = [Whole::blank(); 32];
     match parse_sheet::<Whole, WholeDraft>(sheet, &mut rows) {
         Err(fault) => report_refusal(fault, memory),
@@ -76,7 +83,9 @@ fn plan_whole(sheet: &[u8], memory: &mut [u8]) -> Result<usize, Fault> {
 }
 
 // Writes the report of a sheet, and answers its length. Which kind of rows the sheet has, its first byte says.
-pub fn plan_sheet(sheet: &[u8], memory: &mut [u8]) -> Result<usize, Fault> {
+pub fn plan_sheet(sheet: &[u8], memory: &mut [u8]) -> Result<usize, Fault>
+    ensures { λ r. ⌜ made r (λ n. n ≤ length (now (memory .entry))) ⌝ }
+{
     if sheet.first().copied() == Some(WHOLE) {
         plan_whole(sheet, memory)
     } else {

@@ -4,6 +4,7 @@ ghost use mathlib.Core.Path.{_≡_};
 ghost use Prim.Native.Nat.{_+_, _≤_, _<_};
 ghost use lib.ListN.{length, take};
 ghost use Rattle.report.specs.Memory.{Puts};
+ghost use Rattle.std.specs.Vec.{made};
 ghost use Rattle.report.specs.Reports.{OrderReported, each-once, occurs, order-head, order-line, order-lines};
 use crate::fields::NEWLINE;
 use crate::fields::REPORT_BYTES;
@@ -112,7 +113,8 @@ pub fn report_order<R: Row>(
     bounds: &[u32],
     memory: &mut [u8],
 ) -> Result<usize, Fault>
-    ensures { λ r. ⌜ OrderReported (R·Row .meaning) tasks questions (now (rows .entry)) (now (order .entry)) (now (bounds .entry)) (now (memory .entry)) (now (memory .exit)) r ⌝ }
+    ensures reported { λ r. ⌜ OrderReported (R·Row .meaning) tasks questions (now (rows .entry)) (now (order .entry)) (now (bounds .entry)) (now (memory .entry)) (now (memory .exit)) r ⌝ }
+    ensures within { λ r. ⌜ made r (λ n. n ≤ length (now (memory .entry))) ⌝ }
 {
     if rows.len() < CAPACITY
         || order.len() < CAPACITY
