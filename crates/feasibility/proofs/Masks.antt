@@ -1,20 +1,16 @@
 -- Masks as lists of places. Assumes nothing.
-use mathlib.Core.Path.{_≡_, refl, sym, ap, _∙_, subst}
-use mathlib.Core.Logic.{_⊎_, inl, inr, _≢_}
+use mathlib.Core.Path.{_≡_, refl, sym, ap, _∙_}
+use mathlib.Core.Logic.{_⊎_, inl, inr}
 use mathlib.Core.Bool.{Bool, true, false, cond, not, _&&_}
-use mathlib.Core.List.{List, [], _∷_, _++_, map, append-nil}
+use mathlib.Core.List.{List, [], _∷_, _++_, append-nil}
 use Prim.Native.Nat.{ℕ, zero, suc, _+_, _-_, _*_, _/_, _%_, _^_, _≤_, _<_, min}
 use native.Mathlib.Numerals.{add-one}
 use native.Mathlib.Nat.{mod-eq-of-lt, div-eq-of-lt}
 use lib.Bits.{bitAnd}
 use native.Mathlib.Omega.{arith}
 use lib.Dec.{eqb, ltb}
-use lib.ListN.{length, length-append}
-use Rattle.std.specs.shelf.Lists.{kept-by}
 use Rattle.std.proofs.shelf.Bits.{mod-pow-add, pow-pos, pow-below, and-mask, mod-below, shr-split}
 use Rattle.std.proofs.shelf.Tests.{cases-bool, cases-lt, eqb-true, eqb-false, ne-eqb, eq-eqb, lt-ltb, le-ltb}
-use Rattle.std.specs.declared.option.Option.{Option}
-use Rattle.std.specs.declared.option.Option.the-variants.{Some, None}
 use Rattle.feasibility.specs.Masks.{places, pool-of, bit-at, has, in-mask, mask-of, askable}
 use Rattle.std.proofs.shelf.Elements.{kept-by-append}
 

@@ -1,16 +1,15 @@
-use mathlib.Core.Path.{_≡_, refl, sym, ap, _∙_}
+use mathlib.Core.Path.{_≡_, sym, ap, _∙_}
 use mathlib.Core.Bool.{true}
 use mathlib.Core.List.{List, []}
-use Prim.Native.Nat.{ℕ, _+_, _<_, _≤_}
+use Prim.Native.Nat.{ℕ, _+_}
 use native.Mathlib.Omega.{arith}
 use lib.ListN.{getD}
-use Rattle.std.specs.declared.option.Option.{Option}
-use Rattle.std.specs.declared.option.Option.the-variants.{Some, None}
+use Rattle.std.specs.declared.option.Option.the-variants.{Some}
 use Rattle.std.proofs.shelf.Lists.{getD-default}
 use Rattle.model.specs.Segments.{most-gaps}
 use Rattle.model.specs.SegmentedRows.{segmented-kind, segments-of}
 use Rattle.model.specs.declared.segmented.Segmented.{Segmented}
-use Rattle.feasibility.specs.Masks.{lawful-question, row-of, rows-in}
+use Rattle.feasibility.specs.Masks.{lawful-question, row-of}
 use Rattle.feasibility.specs.Pieces.{plus, up-to}
 use Rattle.feasibility.proofs.Questions.{inside, lawful-here}
 use Rattle.feasibility.proofs.Parts.{some-segments, asked-is}
