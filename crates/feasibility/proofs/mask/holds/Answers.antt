@@ -1,3 +1,4 @@
+-- The bit of a place, and none past the 32 bits.
 use mathlib.Core.Path.{sym, ap, _∙_}
 use Prim.Native.Nat.{ℕ, _/_, _^_, _≤_, _<_}
 use native.Mathlib.Omega.{arith}

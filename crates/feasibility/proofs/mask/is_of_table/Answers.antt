@@ -1,3 +1,4 @@
+-- A mask below 2 to the number of rows.
 use mathlib.Core.Path.{sym, _∙_}
 use Prim.Native.Nat.{_^_, _<_}
 use native.Mathlib.Omega.{arith}

@@ -1,3 +1,4 @@
+-- Each jump passes over nothing that fits.
 use mathlib.Core.Path.{_≡_}
 use mathlib.Core.Bool.{true}
 use Prim.Native.Nat.{_+_}

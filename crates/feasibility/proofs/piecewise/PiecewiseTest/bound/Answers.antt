@@ -1,3 +1,4 @@
+-- The bound is S plus all parts, up to the deadline, of a lawful row.
 use mathlib.Core.Path.{_≡_, sym, ap, _∙_}
 use mathlib.Core.Bool.{true}
 use mathlib.Core.List.{List, []}
@@ -38,8 +39,8 @@ returns-in-Break-parts g c =
     let whole = ap (plus (Some (most-gaps (segments-of x)))) (sym (c .in-Break-parts .was tt) ∙ c .all-parts .ensures .sum) in
     c .from-residual .ensures ∙ ap (up-to (x .deadline)) whole ∙ sym (asked-is (g .C·Curve .workload) rows (c .args .place) (c .args .above) ok x (row-is rows (c .args .place) (c .args .above) ok))
 
-pub joined-requires : need.joined-requires
-joined-requires g c κs =
+pub within-deadline-requires : need.within-deadline-requires
+within-deadline-requires g c κs =
     let rows = c .args .rows .now in
     let x = row-at rows (c .args .place) in
     let ok : lawful-question segmented-kind rows (c .args .place) (c .args .above) ≡ true = sym (c .is-lawful-question .ensures) ∙ c .if-not-is-lawful-question .left in
@@ -53,5 +54,5 @@ returns g c =
     let ok : lawful-question segmented-kind rows (c .args .place) (c .args .above) ≡ true = sym (c .is-lawful-question .ensures) ∙ c .if-not-is-lawful-question .left in
     let gaps : c .suspend .result ≡ most-gaps (segments-of x) = c .suspend .ensures in
     let whole = ap (plus (Some (most-gaps (segments-of x)))) (sym (c .in-Continue-parts .was tt) ∙ c .all-parts .ensures .sum) in
-    c .joined .ensures ∙ ap (λ n. up-to (x .deadline) (Some (n + c .in-Continue-parts .parts))) gaps ∙ ap (up-to (x .deadline)) whole
+    c .within-deadline .ensures ∙ ap (λ n. up-to (x .deadline) (Some (n + c .in-Continue-parts .parts))) gaps ∙ ap (up-to (x .deadline)) whole
     ∙ sym (asked-is (g .C·Curve .workload) rows (c .args .place) (c .args .above) ok x (row-is rows (c .args .place) (c .args .above) ok))

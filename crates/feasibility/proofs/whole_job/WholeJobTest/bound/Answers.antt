@@ -1,3 +1,4 @@
+-- C + S of a lawful row is small.
 use mathlib.Core.Path.{_≡_, sym, ap, _∙_}
 use mathlib.Core.Bool.{true}
 use native.Mathlib.Omega.{arith}
