@@ -3,19 +3,19 @@ ghost use mathlib.Core.Bool.{true};
 ghost use mathlib.Core.Path.{_≡_};
 ghost use Prim.Native.Nat.{ℕ, _+_, _-_, _≤_, _<_};
 ghost use Rattle.model.specs.Rows.{limit};
-ghost use Rattle.model.specs.Segments.{least-gaps, segmented-lawful};
+ghost use Rattle.model.specs.Segments.{all-ticks, least-gaps, segmented-lawful};
 ghost use Rattle.model.specs.SegmentedRows.{segmented-shape, segments-of};
 ghost use Rattle.curves.specs.SegmentCurve.{gap-after, phase-work, work-from};
 use model::row::Row;
 use model::segmented::Segmented;
 use model::segmented::rules::SegmentedRow;
 
-// The least suspensions of a job in all.
-fn least_suspension(row: &Segmented) -> u32
+// The ticks of a job whose suspensions are all as short as they can be.
+fn shortest_job(row: &Segmented) -> u32
     requires { ⌜ segmented-lawful segmented-shape (now row) ≡ true ⌝ }
-    ensures { λ r. ⌜ r ≡ least-gaps (segments-of (now (row .entry))) ⌝ }
+    ensures { λ r. ⌜ r ≡ all-ticks (segments-of (now (row .entry))) + least-gaps (segments-of (now (row .entry))) ⌝ }
 {
-    let mut total: u32 = 0;
+    let mut total = row.compute() as u32;
     for j in 0..row.count as usize - 1 {
         total += row.least[j];
     }
@@ -34,7 +34,7 @@ fn gap_after(row: &Segmented, j: usize) -> u32
     } else if j <= count {
         row.period - row.deadline
     } else {
-        row.period - row.compute() as u32 - least_suspension(row)
+        row.period - shortest_job(row)
     }
 }
 

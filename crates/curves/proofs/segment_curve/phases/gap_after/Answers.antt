@@ -7,10 +7,10 @@ pub returns-then-place-count : need.returns-then-place-count
 returns-then-place-count c = sym (gap-inside (c .args .row .now) (c .pre) (c .args .j) (λ e. c .if-place-count .taken (omega arith)))
 
 pub returns-then-j-count : need.returns-then-j-count
-returns-then-j-count c = sym (gap-near (c .args .row .now) (c .pre) (c .args .j) (omega arith) (c .if-j-count .taken))
+returns-then-j-count c = omega (arith, gap-near (c .args .row .now) (c .pre) (c .args .j) (omega arith) (c .if-j-count .taken))
 
 pub returns-else-j-count : need.returns-else-j-count
 returns-else-j-count c = omega (arith, gap-far (c .args .row .now) (c .pre) (c .args .j) (omega arith) (c .if-j-count .left))
 
-pub sub-result-else-j-count-2 : need.sub-result-else-j-count-2
-sub-result-else-j-count-2 c = let known = limits (c .args .row .now) (c .pre) in omega (arith, known .bounds, known .gaps)
+pub sub-result-else-j-count : need.sub-result-else-j-count
+sub-result-else-j-count c = let known = limits (c .args .row .now) (c .pre) in omega (arith, known .bounds, known .gaps)
