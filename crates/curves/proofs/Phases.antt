@@ -9,7 +9,7 @@ use lib.Arith.{digits-mod}
 use Rattle.std.proofs.shelf.Tests.{eq-eqb, ne-eqb, le-leb, lt-leb, cond-true, cond-false, cond-both}
 use Rattle.model.specs.Segments.{Segments, last, more, count, all-ticks, least-gaps}
 use Rattle.curves.specs.SegmentCurve.{ticks-at, gap-at, gap-after, work-from, phase-work}
-use Rattle.curves.proofs.Sequences.{worked, jobs-from, Gentle, worked-same, top}
+use Rattle.curves.proofs.Sequences.{worked, jobs-from, Lipschitz, worked-same, top}
 
 pub some-segments : (s : Segments) → 1 ≤ count s
 some-segments (last c) = omega arith
@@ -80,10 +80,10 @@ module _ (s : Segments) (T D : ℕ) where
       let past : 0 - (ticks-at s (j % M) + gap-after s T D j) ≡ 0 = omega arith in
       omega (arith, ap (work-from s T D n (suc j)) past, none-left n (suc j))
 
-  pub gentle-work : (n j : ℕ) → Gentle (work-from s T D n j)
-  gentle-work zero j = record { by = λ u v d h. omega arith }
-  gentle-work (suc n) j =
-      let rest = gentle-work n (suc j) in
+  pub lipschitz-work : (n j : ℕ) → Lipschitz (work-from s T D n j)
+  lipschitz-work zero j = record { by = λ u v d h. omega arith }
+  lipschitz-work (suc n) j =
+      let rest = lipschitz-work n (suc j) in
       record { by = λ u v d h. omega (arith, rest .by (u - (ticks-at s (j % M) + gap-after s T D j)) (v - (ticks-at s (j % M) + gap-after s T D j)) (d - (min (ticks-at s (j % M)) u - min (ticks-at s (j % M)) v)) (omega arith)) }
 
   -- of more segments, more work
