@@ -4,7 +4,7 @@ use Prim.Native.Nat.{_+_, _-_, _≤_}
 use lib.ListN.{getD}
 use Rattle.model.proofs.Totals.{sum-below, sum-more}
 use Rattle.curves.proofs.RowSegments.{limits, least-is, least-part}
-use Rattle.curves.proofs.segment_curve.phases.least_suspension.Needs as need
+use Rattle.curves.proofs.segment_curve.phases.shortest_job.Needs as need
 
 pub loop-j-again : need.loop-j-again
 loop-j-again c = let more = sum-more (λ k. getD (c .args .row .now .least) k 0) (c .loop-j .j) in omega arith
