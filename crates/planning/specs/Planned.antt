@@ -1,12 +1,10 @@
 -- The report of a sheet. Assumes nothing.
-use mathlib.Core.Path.{_≡_}
-use mathlib.Core.Bool.{Bool, false, cond}
-use mathlib.Core.List.{List, [], _∷_}
-use Prim.Native.Nat.{ℕ, _≤_}
-use lib.Dec.{eqb, leb}
+use mathlib.Core.Bool.{Bool, cond}
+use mathlib.Core.List.{List}
+use Prim.Native.Nat.{ℕ}
+use lib.Dec.{eqb}
 use lib.ListN.{length, getD}
 use Rattle.std.specs.declared.result.Result.{Result}
-use Rattle.std.specs.declared.result.Result.the-variants.{Ok, Err}
 use Rattle.model.specs.Rows.{Kind}
 use Rattle.model.specs.SegmentedRows.{segmented-shape, segmented-kind}
 use Rattle.model.specs.WholeRows.{whole-kind}
@@ -22,15 +20,13 @@ use Rattle.assign.specs.Assignment.{Outcome, accepted, stuck}
 use Rattle.assign.specs.Laws.{Arranges}
 use Rattle.table.specs.declared.fault.Fault.{Fault}
 use Rattle.table.specs.declared.fault.Fault.the-variants.{Assignment}
-use Rattle.table.specs.declared.refusal.Refusal.the-variants.{ShortMemory}
 use Rattle.table.specs.Tables.{append-refusal}
 use Rattle.sheet.specs.Language.{Grammar}
 use Rattle.sheet.specs.Sheets.{Verdict, good, bad, Sheet}
 use Rattle.sheet.specs.Bytes.{segmented-byte, whole-byte}
 use Rattle.sheet.specs.SegmentedSheets.{segmented-grammar, segmented-letters}
 use Rattle.sheet.specs.WholeSheets.{whole-grammar, whole-letters}
-use Rattle.report.specs.Memory.{with-bytes}
-use Rattle.report.specs.Reports.{order-bytes, refused-bytes, report-fault}
+use Rattle.report.specs.Reports.{Writes, order-bytes, refused-bytes}
 
 -- what is reported of an assignment
 abbrev pub outcome-report : {R : Type 0} → Kind R → List R → Outcome → List ℕ
@@ -64,7 +60,6 @@ Planning sheet report =
     cond (eqb (getD sheet 0 0) whole-byte) (Planned whole-grammar whole-kind whole-byte whole-letters (λ letter. test-J whole-kind) sheet report)
     (Planned segmented-grammar segmented-kind segmented-byte segmented-letters segmented-test sheet report)
 
--- A sheet's report is written into a memory, and its length answered; nothing else is written, and nothing at all where the memory is short.
+-- the sheet's report is written into a memory
 abbrev pub PlansSheet : List ℕ → List ℕ → List ℕ → Result ℕ Fault → Type 0
-PlansSheet sheet before after (Ok n) = (report : List ℕ) × Planning sheet report × (1024 ≤ length before) × (n ≡ length report) × (after ≡ with-bytes before 0 report)
-PlansSheet sheet before after (Err fault) = (leb 1024 (length before) ≡ false) × (fault ≡ report-fault ShortMemory) × (after ≡ before)
+PlansSheet sheet before after r = (report : List ℕ) × Planning sheet report × Writes report before after r

@@ -33,7 +33,12 @@ use sheet::whole::WholeSheet;
 use table::fault::Fault;
 
 // Arranges the first tasks of the rows, and reports the order or that none is found.
-fn report_arranged<R: Row, Q: Test<R>>(test: &Q, rows: &[R; 32], tasks: usize, memory: &mut [u8]) -> Result<usize, Fault>
+fn report_arranged<R: Row, Q: Test<R>>(
+    test: &Q,
+    rows: &[R; 32],
+    tasks: usize,
+    memory: &mut [u8],
+) -> Result<usize, Fault>
     requires { ⌜ tasks ≤ 32 ⌝ }
     ensures { λ r. ⌜ made r (λ n. n ≤ length (now (memory .entry))) ⌝ }
 {

@@ -135,9 +135,11 @@ module _ {S R : Type 0} (g : Grammar S R) (kind : Kind R) (mark : ℕ) (letters 
       at-outcome : (o : Option (language.Outcome R)) → parse-by n (g .start) [] 2 rest ≡ o → k ≡ mark → letters l ≡ true → mapped (reported l) o ≡ Some report → Planned g kind mark letters tests (k ∷ l ∷ rest) report
       at-outcome None p f m h = let z : _≡_ {A = ℕ} 0 1 = cc in absurd (omega arith)
       at-outcome (Some o) p f m h = let same : reported l o ≡ report = cc in subst (λ r. Planned g kind mark letters tests (k ∷ l ∷ rest) r) same (by-outcome n k l rest o f m p)
+
       at-letter : (b : Bool) → letters l ≡ b → k ≡ mark → cond b (mapped (reported l) (parse-by n (g .start) [] 2 rest)) (Some (refused-bytes (not-allowed-at 1))) ≡ Some report → Planned g kind mark letters tests (k ∷ l ∷ rest) report
       at-letter true m f h = at-outcome (parse-by n (g .start) [] 2 rest) refl f m h
       at-letter false m f h = let same : refused-bytes (not-allowed-at 1) ≡ report = cc in subst (λ r. Planned g kind mark letters tests (k ∷ l ∷ rest) r) same (refused (other-letter (ap (λ x. x ∷ l ∷ rest) f) m))
+
       at-kind : (b : Bool) → eqb k mark ≡ b → cond b (cond (letters l) (mapped (reported l) (parse-by n (g .start) [] 2 rest)) (Some (refused-bytes (not-allowed-at 1)))) (Some (refused-bytes (not-allowed-at 0))) ≡ Some report → Planned g kind mark letters tests (k ∷ l ∷ rest) report
       at-kind true f h = at-letter (letters l) refl (eqb-true k mark f) h
       at-kind false f h = let same : refused-bytes (not-allowed-at 0) ≡ report = cc in subst (λ r. Planned g kind mark letters tests (k ∷ l ∷ rest) r) same (refused (other-kind refl (eqb-false k mark f)))

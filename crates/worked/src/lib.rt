@@ -4,5 +4,4 @@ ghost use Rattle.worked.specs.Worked.{Worked};
 
 pub fn examples_stand()
     ensures { λ _. ⌜ Worked ⌝ }
-{
-}
+{}
