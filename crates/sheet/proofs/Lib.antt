@@ -8,3 +8,4 @@ pub mod WholeSpelling
 pub mod Written
 pub mod Filled
 pub mod SegmentedSpelling
+pub mod Writing

@@ -9,3 +9,4 @@ pub mod Readers
 pub mod Spelling
 pub mod SegmentedTasks
 pub mod WholeTasks
+pub mod Writing

@@ -7,6 +7,7 @@ ghost use Rattle.sheet.specs.Sheets.{Nothing-follows, One-verdict};
 ghost use Rattle.sheet.specs.Spelling.{Good-is-written};
 ghost use Rattle.sheet.specs.WholeSheets.{whole-grammar};
 ghost use Rattle.sheet.specs.WholeTasks.{WholeTask};
+ghost use Rattle.sheet.specs.Writing.{SegmentedFits, Table-is-written, WholeFits, segmented-code, whole-code};
 
 // Every byte string is either accepted with one letter and list of rows, or refused with one fault; a byte after an accepted sheet is refused.
 pub fn one_verdict<S, R>() -> u8
@@ -21,6 +22,14 @@ pub fn one_verdict<S, R>() -> u8
 pub fn good_is_written() -> u8
     ensures segmented { λ _. ⌜ Good-is-written segmented-grammar SegmentedTask segmented-kind ⌝ }
     ensures whole { λ _. ⌜ Good-is-written whole-grammar WholeTask whole-kind ⌝ }
+{
+    0
+}
+
+// What is written of a lawful table of at most 32 rows, task after task, is an accepted sheet with that table.
+pub fn table_is_written() -> u8
+    ensures segmented { λ _. ⌜ Table-is-written segmented-grammar segmented-kind SegmentedFits segmented-code ⌝ }
+    ensures whole { λ _. ⌜ Table-is-written whole-grammar whole-kind WholeFits whole-code ⌝ }
 {
     0
 }
