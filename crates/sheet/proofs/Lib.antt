@@ -9,3 +9,4 @@ pub mod Written
 pub mod Filled
 pub mod SegmentedSpelling
 pub mod Writing
+pub mod Cuts

@@ -10,3 +10,4 @@ pub mod Spelling
 pub mod SegmentedTasks
 pub mod WholeTasks
 pub mod Writing
+pub mod Cuts

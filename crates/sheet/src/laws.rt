@@ -1,6 +1,7 @@
 // Theorems on the sheet language.
 ghost use Rattle.model.specs.SegmentedRows.{segmented-kind};
 ghost use Rattle.model.specs.WholeRows.{whole-kind};
+ghost use Rattle.sheet.specs.Cuts.{Cut-is-cut};
 ghost use Rattle.sheet.specs.SegmentedSheets.{segmented-grammar};
 ghost use Rattle.sheet.specs.SegmentedTasks.{SegmentedTask};
 ghost use Rattle.sheet.specs.Sheets.{Nothing-follows, One-verdict};
@@ -30,6 +31,14 @@ pub fn good_is_written() -> u8
 pub fn table_is_written() -> u8
     ensures segmented { λ _. ⌜ Table-is-written segmented-grammar segmented-kind SegmentedFits segmented-code ⌝ }
     ensures whole { λ _. ⌜ Table-is-written whole-grammar whole-kind WholeFits whole-code ⌝ }
+{
+    0
+}
+
+// A sheet is refused as cut at a place exactly if whole commands stand up to that place, and from there on a proper part of an allowed one.
+pub fn cut_is_cut() -> u8
+    ensures segmented { λ _. ⌜ Cut-is-cut segmented-grammar segmented-kind ⌝ }
+    ensures whole { λ _. ⌜ Cut-is-cut whole-grammar whole-kind ⌝ }
 {
     0
 }
