@@ -7,10 +7,12 @@ use crate::bytes::WHOLE_TASK;
 use crate::command::CommandFault;
 use crate::command::Effect;
 use crate::draft::Draft;
+use crate::draft::SheetRow;
 use crate::operands::four;
 use crate::operands::operands;
 use crate::operands::two;
 use model::whole::Whole;
+use model::whole::WholeRow;
 
 // A whole row is one command, so nothing is left over between commands.
 #[derive(Clone, Copy)]
@@ -52,4 +54,8 @@ pub impl Draft<Whole> for WholeDraft as WholeSheet {
             _ => Err(CommandFault::NotAllowed),
         }
     }
+}
+
+pub impl SheetRow for Whole as WholeSheetRow {
+    type Draft = WholeDraft;
 }
