@@ -25,11 +25,11 @@ use model::whole::WholeRow;
 use report::order::report_order;
 use report::refused::report_refusal;
 use sheet::bytes::WHOLE;
-use sheet::segmented::SegmentedDraft;
 use sheet::segmented::commands::SegmentedSheet;
+use sheet::segmented::commands::SegmentedSheetRow;
 use sheet::sheet::parse_sheet;
-use sheet::whole::WholeDraft;
 use sheet::whole::WholeSheet;
+use sheet::whole::WholeSheetRow;
 use table::fault::Fault;
 
 // Arranges the first tasks of the rows, and reports the order or that none is found.
@@ -59,7 +59,7 @@ fn plan_segmented(sheet: &[u8], memory: &mut [u8]) -> Result<usize, Fault>
     ensures { λ r. ⌜ made r (λ n. n ≤ length (now (memory .entry))) ⌝ }
 {
     let mut rows = [Segmented::blank(); 32];
-    match parse_sheet::<Segmented, SegmentedDraft>(sheet, &mut rows) {
+    match parse_sheet::<Segmented>(sheet, &mut rows) {
         Err(fault) => report_refusal(fault, memory),
         Ok((tasks, letter)) => {
             if letter == letter_of::<Segmented, WholeJob<SegmentCurve>>() {
@@ -81,7 +81,7 @@ fn plan_whole(sheet: &[u8], memory: &mut [u8]) -> Result<usize, Fault>
     ensures { λ r. ⌜ made r (λ n. n ≤ length (now (memory .entry))) ⌝ }
 {
     let mut rows = [Whole::blank(); 32];
-    match parse_sheet::<Whole, WholeDraft>(sheet, &mut rows) {
+    match parse_sheet::<Whole>(sheet, &mut rows) {
         Err(fault) => report_refusal(fault, memory),
         Ok((tasks, _)) => report_arranged(&WholeJob(Ceiling), &rows, tasks, memory),
     }
