@@ -20,11 +20,11 @@ use model::segmented::rules::SegmentedRow;
 use model::whole::Whole;
 use model::whole::WholeRow;
 use sheet::bytes::WHOLE;
-use sheet::segmented::SegmentedDraft;
 use sheet::segmented::commands::SegmentedSheet;
+use sheet::segmented::commands::SegmentedSheetRow;
 use sheet::sheet::parse_sheet;
-use sheet::whole::WholeDraft;
 use sheet::whole::WholeSheet;
+use sheet::whole::WholeSheetRow;
 
 // Why a question was not put.
 #[derive(Clone, Copy)]
@@ -77,13 +77,13 @@ fn ask_whole(letter: u8, rows: &[Whole], place: usize, above: u32) -> Result<Opt
 pub fn ask(letter: u8, sheet: &[u8], place: usize, above: u32) -> Result<Option<u32>, Unasked> {
     if sheet.first().copied() == Some(WHOLE) {
         let mut rows = [Whole::blank(); 32];
-        match parse_sheet::<Whole, WholeDraft>(sheet, &mut rows) {
+        match parse_sheet::<Whole>(sheet, &mut rows) {
             Ok((tasks, _)) => ask_whole(letter, &rows[..tasks], place, above),
             Err(_) => Err(Unasked::SheetRefused),
         }
     } else {
         let mut rows = [Segmented::blank(); 32];
-        match parse_sheet::<Segmented, SegmentedDraft>(sheet, &mut rows) {
+        match parse_sheet::<Segmented>(sheet, &mut rows) {
             Ok((tasks, _)) => ask_segmented(letter, &rows[..tasks], place, above),
             Err(_) => Err(Unasked::SheetRefused),
         }

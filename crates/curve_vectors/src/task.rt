@@ -8,8 +8,8 @@ use model::segmented::Segmented;
 use model::segmented::rules::SegmentedRow;
 use sheet::bytes::END;
 use sheet::bytes::SEGMENTED;
-use sheet::segmented::SegmentedDraft;
 use sheet::segmented::commands::SegmentedSheet;
+use sheet::segmented::commands::SegmentedSheetRow;
 use sheet::sheet::parse_sheet;
 
 // Enough for a kind, a letter, a task of eight segments and the closing command.
@@ -33,7 +33,7 @@ pub fn read_task(text: &[u8]) -> Option<Segmented> {
     let mut sheet = [0u8; SHEET_BYTES];
     let length = write_sheet(text, &mut sheet)?;
     let mut rows = [Segmented::blank(); 32];
-    match parse_sheet::<Segmented, SegmentedDraft>(&sheet[..length], &mut rows) {
+    match parse_sheet::<Segmented>(&sheet[..length], &mut rows) {
         Ok((1, _)) => Some(rows[0]),
         _ => None,
     }
