@@ -1,8 +1,7 @@
 // A table of rows in lent memory.
 ghost use mathlib.Core.Path.{_≡_};
-ghost use Prim.Native.Nat.{_≤_};
-ghost use lib.ListN.{length, take};
-ghost use Rattle.table.specs.Tables.{Appended, blanked, has-id};
+ghost use lib.ListN.{length};
+ghost use Rattle.table.specs.Tables.{Appended, FirstWithId, Judged, Removed, Replaced, blanked, has-id, table-of};
 use crate::fault::PlanFault;
 use crate::refusal::Refusal;
 use model::row::Row;
@@ -10,17 +9,30 @@ use model::row::Row;
 // How many tasks a table holds at most, and how many entries a memory has at least.
 pub const CAPACITY: usize = 32;
 
-// Whether one of the first `count` rows has this id.
-pub(crate) fn holds_id<R: Row>(rows: &[R], count: usize, id: u16) -> bool
-    requires { ⌜ count ≤ length (now rows) ⌝ }
-    ensures { λ r. ⌜ r ≡ has-id (R·Row .meaning) id (take count (now (rows .entry))) ⌝ }
+// The table of `count` rows: no more than 32, and no more than there are.
+fn table<R>(rows: &[R], count: usize) -> &[R]
+    ensures { λ r. ⌜ now r ≡ table-of count (now (rows .entry)) ⌝ }
 {
-    for i in 0..count {
-        if rows[i].id() == id {
-            return true;
+    &rows[0..count.min(CAPACITY).min(rows.len())]
+}
+
+// The place of the first row with this id.
+fn place_of<R: Row>(rows: &[R], id: u16) -> Option<usize>
+    ensures { λ r. ⌜ FirstWithId (R·Row .meaning) id (now (rows .entry)) r ⌝ }
+{
+    for (place, row) in rows.iter().enumerate() {
+        if row.id() == id {
+            return Some(place);
         }
     }
-    false
+    None
+}
+
+// Whether a row has this id.
+fn holds_id<R: Row>(rows: &[R], id: u16) -> bool
+    ensures { λ r. ⌜ r ≡ has-id (R·Row .meaning) id (now (rows .entry)) ⌝ }
+{
+    place_of(rows, id).is_some()
 }
 
 // Adds a row at the end of the table of the first `count` rows. It is refused, and nothing is written, if the memory is short, the table is
@@ -46,7 +58,7 @@ pub fn append<R: Row>(rows: &mut [R], count: usize, row: R) -> Result<(), PlanFa
             place: count,
         });
     }
-    if holds_id(rows, count, row.id()) {
+    if holds_id(&rows[0..count], row.id()) {
         return Err(PlanFault {
             refusal: Refusal::IdTaken,
             place: count,
@@ -66,4 +78,79 @@ pub fn blank_from<R: Row>(rows: &mut [R], from: usize)
     for i in from..CAPACITY {
         rows[i] = R::blank();
     }
+}
+
+// Replaces the first row of the table of `count` rows that has the row's own id. It is refused, and nothing is written, if the memory is
+// short, the row is not lawful or no row has its id.
+pub fn replace<R: Row>(rows: &mut [R], count: usize, row: R) -> Result<(), PlanFault>
+    ensures { λ r. ⌜ Replaced (R·Row .meaning) (now (rows .entry)) count row (now (rows .exit)) r ⌝ }
+{
+    if rows.len() < CAPACITY {
+        return Err(PlanFault {
+            refusal: Refusal::ShortMemory,
+            place: 0,
+        });
+    }
+    if !row.is_lawful() {
+        return Err(PlanFault {
+            refusal: Refusal::RowUnlawful,
+            place: 0,
+        });
+    }
+    let Some(place) = place_of(table(rows, count), row.id()) else {
+        return Err(PlanFault {
+            refusal: Refusal::NoSuchTask,
+            place: 0,
+        });
+    };
+    rows[place] = row;
+    Ok(())
+}
+
+// Removes the first row of the table of `count` rows that has this id: later rows move down one, and the freed place is blank. It is
+// refused, and nothing is written, if the memory is short or no row has the id.
+pub fn remove<R: Row>(rows: &mut [R], count: usize, id: u16) -> Result<(), PlanFault>
+    ensures { λ r. ⌜ Removed (R·Row .meaning) (now (rows .entry)) count id (now (rows .exit)) r ⌝ }
+{
+    if rows.len() < CAPACITY {
+        return Err(PlanFault {
+            refusal: Refusal::ShortMemory,
+            place: 0,
+        });
+    }
+    let Some(place) = place_of(table(rows, count), id) else {
+        return Err(PlanFault {
+            refusal: Refusal::NoSuchTask,
+            place: 0,
+        });
+    };
+    let last = count.min(CAPACITY) - 1;
+    for i in place..last {
+        rows[i] = rows[i + 1];
+    }
+    rows[last] = R::blank();
+    Ok(())
+}
+
+// Judges the rows of the table of `count` rows one by one: whether each is lawful and its id stands at no lower place. The fault is that of
+// the first row that fails, with its place.
+pub fn judge_rows<R: Row>(rows: &[R], count: usize) -> Result<(), PlanFault>
+    ensures { λ r. ⌜ Judged (R·Row .meaning) (table-of count (now (rows .entry))) r ⌝ }
+{
+    let rows = table(rows, count);
+    for (place, row) in rows.iter().enumerate() {
+        if !row.is_lawful() {
+            return Err(PlanFault {
+                refusal: Refusal::RowUnlawful,
+                place,
+            });
+        }
+        if holds_id(&rows[0..place], row.id()) {
+            return Err(PlanFault {
+                refusal: Refusal::IdTaken,
+                place,
+            });
+        }
+    }
+    Ok(())
 }
