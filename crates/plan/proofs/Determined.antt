@@ -1,5 +1,5 @@
 -- Each call on its stage has exactly one answer and one state after. Assumes nothing.
-use mathlib.Core.Path.{_≡_, refl, sym, ap, _∙_}
+use mathlib.Core.Path.{_≡_, refl, ap, _∙_}
 use mathlib.Core.Logic.{_⊎_, inl, inr}
 use mathlib.Core.Bool.{Bool}
 use mathlib.Core.List.{List, [], _++_, _∷_}
@@ -10,15 +10,14 @@ use Rattle.feasibility.specs.Tests.{Answers}
 use Rattle.feasibility.specs.Masks.{row-of, mask-of}
 use Rattle.table.specs.declared.fault.Fault.{Fault}
 use Rattle.table.specs.declared.fault.Fault.the-variants.{Assignment}
-use Rattle.table.specs.Tables.{written}
+use Rattle.table.specs.Tables.{written, replaced, removed}
 use Rattle.sheet.specs.Sheets.{Verdict, good, bad, rows-of}
 use Rattle.assign.specs.Assignment.{Outcome, accepted, stuck}
 use Rattle.assign.specs.Laws.{Arranges, all-places}
 use Rattle.assign.proofs.Outcomes.{outcome, unique}
-use Rattle.plan.specs.Tables.{replaced, removed}
 use Rattle.plan.specs.States.{State, opened, arranged, Answer, done, letter, told, refused, refused-beside}
 use Rattle.plan.specs.Calls.{Passed, Met, enter-checks, amend-checks, withdraw-checks, load-checks, arrange-checks, read-checks, Enter, entered, not-entered, Amend, amended, not-amended, Withdraw, withdrawn, not-withdrawn, Load, loaded, sheet-refused, not-loaded, Arrange, given, none-fits, not-arranged, Reopen, reopened, Read, read-at, not-read}
-use Rattle.plan.specs.Laws.{ExactlyOne, Determined, CallsDetermined}
+use Rattle.plan.specs.Laws.{ExactlyOne, CallsDetermined}
 use Rattle.plan.proofs.Checks.{checked, met-same, not-met}
 
 -- A call that passes its checks with one answer and one state, or is refused and leaves its state.

@@ -14,11 +14,10 @@ use Rattle.table.specs.declared.fault.Fault.{Fault}
 use Rattle.table.specs.declared.fault.Fault.the-variants.{Plan, Assignment, InSheet}
 use Rattle.table.specs.declared.refusal.Refusal.{Refusal}
 use Rattle.table.specs.declared.refusal.Refusal.the-variants.{ShortMemory, TableFull, RowUnlawful, IdTaken, NoSuchTask}
-use Rattle.table.specs.Tables.{capacity, has-id, written, plan-fault}
+use Rattle.table.specs.Tables.{capacity, has-id, written, plan-fault, replaced, removed}
 use Rattle.sheet.specs.Sheets.{Verdict, good, bad}
 use Rattle.assign.specs.Assignment.{accepted, stuck}
 use Rattle.assign.specs.Laws.{all-places, Arranges}
-use Rattle.plan.specs.Tables.{replaced, removed}
 use Rattle.plan.specs.States.{State, opened, arranged, Answer, done, letter, told, refused, refused-beside}
 
 -- Refusals. Each call checks those that it can meet, in order, and is refused with the first that is met.

@@ -4,15 +4,12 @@ use mathlib.Core.List.{List}
 use mathlib.Core.Bool.{Bool}
 use Prim.Native.Nat.{ℕ, _-_, _≤_}
 use lib.ListN.{getD, take}
-use Rattle.std.specs.declared.option.Option.{Option}
 use Rattle.model.specs.Rows.{Kind}
-use Rattle.feasibility.specs.Tests.{Answers, TestRules}
+use Rattle.feasibility.specs.Tests.{Answers}
 use Rattle.feasibility.specs.Masks.{row-of}
-use Rattle.table.specs.declared.refusal.Refusal.{Refusal}
-use Rattle.table.specs.Tables.{capacity, append-refusal}
+use Rattle.table.specs.Tables.{capacity, append-refusal, LawfulTable}
 use Rattle.sheet.specs.Language.{Grammar}
 use Rattle.sheet.specs.Sheets.{Verdict, Sheet}
-use Rattle.plan.specs.Tables.{LawfulTable}
 use Rattle.plan.specs.States.{State, opened, arranged, Answer, told, tasks-of, table-of, past-capacity}
 use Rattle.plan.specs.Calls.{Enter, Amend, Withdraw, Load, Arrange, Reopen, Read, short}
 use Rattle.plan.specs.Sequences.{Reading, Call, Leads, Reached, made, Alike}
@@ -67,8 +64,8 @@ ArrangedReadable R =
 abbrev pub Promises : Type 0 → Type 0
 Promises R = (kind : Kind R) → Promise kind
 
--- the verdicts on sheets of a grammar are a reading of sheets
+-- the one verdict on each sheet of a grammar is a reading of sheets
 abbrev pub SheetsRead : Type 0 → Type 0 → Type 0
 SheetsRead S R =
     (kind : Kind R) (g : Grammar S R) (mark : ℕ) (letters : ℕ → Bool)
-    → (reading : Reading R) × ((bytes : List ℕ) → Sheet g (append-refusal kind) mark letters bytes (reading .read bytes))
+    → (reading : Reading R) × ((bytes : List ℕ) → Sheet g (append-refusal kind) mark letters bytes (reading .read bytes) × ((v : Verdict R) → Sheet g (append-refusal kind) mark letters bytes v → v ≡ reading .read bytes))

@@ -1,6 +1,6 @@
-pub mod Tables
 pub mod States
 pub mod Calls
 pub mod Sequences
 pub mod Promises
 pub mod Laws
+pub mod WorkedCalls

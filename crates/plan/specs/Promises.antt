@@ -12,9 +12,8 @@ use Rattle.model.specs.LawfulRuns.{Lawful, NoLate}
 use Rattle.feasibility.specs.Tests.{Answers, TestRules}
 use Rattle.feasibility.specs.Masks.{places, row-of}
 use Rattle.table.specs.declared.refusal.Refusal.the-variants.{NoTaskFits}
-use Rattle.table.specs.Tables.{capacity}
+use Rattle.table.specs.Tables.{capacity, LawfulTable}
 use Rattle.assign.specs.Laws.{NoneFits}
-use Rattle.plan.specs.Tables.{LawfulTable}
 use Rattle.plan.specs.States.{State, opened, arranged, Answer, refusal-of}
 use Rattle.plan.specs.Calls.{Arrange}
 use Rattle.plan.specs.Sequences.{Reading, Call, Reached, ArrangedBy}

@@ -1,14 +1,13 @@
 -- Sequences of calls: the states that they reach, what they make of the table, and which entries matter to them. Assumes nothing.
 use mathlib.Core.Path.{_≡_}
-use mathlib.Core.Bool.{Bool, true, false, cond}
+use mathlib.Core.Bool.{Bool, cond}
 use mathlib.Core.List.{List, [], _∷_, _++_}
 use Prim.Native.Nat.{ℕ, _≤_}
 use lib.ListN.{length, take}
 use Rattle.model.specs.Rows.{Kind}
 use Rattle.feasibility.specs.Tests.{Answers, TestRules}
-use Rattle.table.specs.Tables.{capacity}
+use Rattle.table.specs.Tables.{capacity, replaced, removed}
 use Rattle.sheet.specs.Sheets.{Verdict, rows-of}
-use Rattle.plan.specs.Tables.{replaced, removed}
 use Rattle.plan.specs.States.{State, opened, arranged, Answer, done, letter, told, refused, refused-beside}
 use Rattle.plan.specs.Calls.{Enter, Amend, Withdraw, Load, Arrange, Reopen, Read, short}
 
