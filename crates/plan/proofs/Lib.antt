@@ -9,3 +9,4 @@ pub mod Sequences
 pub mod Readings
 pub mod Alike
 pub mod Worked
+pub mod Returns

@@ -4,3 +4,4 @@ pub mod Sequences
 pub mod Promises
 pub mod Laws
 pub mod WorkedCalls
+pub mod Returns

@@ -1,3 +1,5 @@
-// Plans of tasks: open ones, whose rows change, and arranged ones, whose order and bounds are read. Their rows, orders and bounds lie in memory
-// that is lent to each call.
+// Plans of tasks. Rows are entered into an open plan; arranging it gives an arranged plan, off which the order and its bounds are read, and
+// reopening that one gives an open plan again. A plan is plain numbers: its rows, order and bounds lie in memory that is lent to each call.
 pub mod laws;
+pub mod order;
+pub mod stage;

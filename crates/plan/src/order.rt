@@ -1,0 +1,1 @@
+// The assignment of priorities over the memories of a plan.
