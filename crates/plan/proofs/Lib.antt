@@ -10,3 +10,6 @@ pub mod Readings
 pub mod Alike
 pub mod Worked
 pub mod Returns
+pub mod Orders
+pub mod Loads
+pub mod Arranges

@@ -1,25 +1,27 @@
 -- What the functions on tables return, as the plan's calls have it. Assumes nothing.
 use mathlib.Core.Path.{_≡_, refl, sym, ap, _∙_, subst}
 use mathlib.Core.Logic.{_⊎_, inl, inr}
-use mathlib.Core.Bool.{Bool, true, false, cond, not}
+use mathlib.Core.Bool.{Bool, true, false, cond, not, _||_}
 use mathlib.Core.List.{List, [], _∷_, _++_}
 use Prim.Native.Nat.{ℕ, _+_, _-_, _≤_, _<_, min}
 use native.Mathlib.Omega.{arith}
-use lib.Dec.{leb}
-use lib.ListN.{length, take, drop, set}
-use Rattle.std.proofs.shelf.Lists.{length-take-le}
-use Rattle.std.proofs.shelf.Tests.{cases-lt, lt-ltb, le-ltb, le-leb, lt-leb, leb-true}
+use lib.Dec.{leb, ltb}
+use lib.ListN.{length, take, drop, getD, set}
+use Rattle.std.proofs.shelf.Lists.{length-take-le, getD-take, getD-read}
+use Rattle.std.proofs.shelf.Tests.{cases-lt, lt-ltb, le-ltb, le-leb, lt-leb, leb-true, or-left, or-right, or-from}
 use Rattle.std.specs.declared.option.Option.{Option}
 use Rattle.std.specs.declared.option.Option.the-variants.{Some, None}
 use Rattle.std.specs.Options.{mapped}
 use Rattle.model.specs.Rows.{Kind}
+use Rattle.feasibility.specs.Masks.{row-of}
 use Rattle.table.specs.declared.fault.Fault.{Fault}
 use Rattle.table.specs.declared.fault.Fault.the-variants.{Plan}
 use Rattle.table.specs.declared.fault.PlanFault.{PlanFault}
 use Rattle.table.specs.declared.refusal.Refusal.the-variants.{ShortMemory, TableFull, RowUnlawful, IdTaken, NoSuchTask}
 use Rattle.table.specs.Tables.{has-id, plan-fault, append-fault, row-refusal, absent-fault, remove-fault, replace-fault, table-of, after-table, replaced, removed}
-use Rattle.plan.specs.States.{State, opened, Answer, done, refused}
-use Rattle.plan.specs.Calls.{Passed, Met, in-plan, short, enter-checks, amend-checks, withdraw-checks, Enter, entered, not-entered, Amend, amended, not-amended, Withdraw, withdrawn, not-withdrawn}
+use Rattle.plan.specs.States.{State, opened, arranged, Answer, done, told, refused}
+use Rattle.plan.specs.Calls.{Passed, Met, in-plan, short, some-short, enter-checks, amend-checks, withdraw-checks, Enter, entered, not-entered, Amend, amended, not-amended, Withdraw, withdrawn, not-withdrawn, Read, read-at, not-read}
+use Rattle.plan.proofs.Effects.{long-all}
 
 -- the fault of the first check that is met
 abbrev pub first : List (Bool × Fault) → Option Fault
@@ -43,7 +45,7 @@ first-some (c ∷ cs) f e = go (c .0) refl e (first-some cs f)
     go false h k ih = inr (h, ih k)
 
 module _ {R : Type 0} (kind : Kind R) (rows : List R) (n : ℕ) (few : n ≤ 32) where
-  whole-table : table-of n rows ≡ take n rows
+  pub whole-table : table-of n rows ≡ take n rows
   whole-table = let e : min n 32 ≡ n = omega arith in ap (λ (k : ℕ). take k rows) e
 
   rest-of-table : after-table n rows ≡ drop n rows
@@ -131,3 +133,35 @@ module _ {R : Type 0} (kind : Kind R) (rows : List R) (n : ℕ) (few : n ≤ 32)
 
     pub not-removed : (id : ℕ) (f : PlanFault) → remove-fault kind rows n id ≡ Some f → after ≡ rows → Withdraw kind id (opened n rows order bounds) (refused (Plan f)) (opened n after order bounds)
     not-removed id f e is = subst (λ (m : List R). Withdraw kind id (opened n rows order bounds) (refused (Plan f)) (opened n m order bounds)) (sym is) (not-withdrawn (met _ (withdraw-checks kind n rows id) f (remove-first id) e))
+
+-- the calls that are lent all three memories
+module _ {R : Type 0} (kind : Kind R) (rows : List R) (order bounds : List ℕ) (n q level : ℕ) where
+  abbrev ready : State R
+  ready = arranged n q rows order bounds
+
+  -- a level and the place that the order has there
+  abbrev told-at : Answer
+  told-at = told (kind .ident (row-of kind (take n rows) (getD order (level - 1) 0))) (getD bounds (level - 1) 0)
+
+  pub read-short : (f : Fault) → some-short rows order bounds ≡ true → f ≡ in-plan ShortMemory 0 → Read kind level ready (refused f) ready
+  read-short f e is = not-read (inl (e, sym is))
+
+  pub read-no-level : (f : Fault) → some-short rows order bounds ≡ false → (level ≡ 0) ⊎ (n < level) → f ≡ in-plan NoSuchTask 0 → Read kind level ready (refused f) ready
+  read-no-level f e out is = not-read (inr (e, inl (outside out, sym is)))
+    where
+      outside : (level ≡ 0) ⊎ (n < level) → (leb level 0 || ltb n level) ≡ true
+      outside (inl z) = or-left _ _ (le-leb level 0 (omega arith))
+      outside (inr l) = or-right _ _ (lt-ltb n level l)
+
+  inside : 1 ≤ level → level ≤ n → (leb level 0 || ltb n level) ≡ false
+  inside low high = or-from _ _ (lt-leb level 0 low) (le-ltb n level high)
+
+  pub read-no-task : (f : Fault) → some-short rows order bounds ≡ false → 1 ≤ level → level ≤ n → n ≤ getD order (level - 1) 0 → f ≡ in-plan NoSuchTask 0 → Read kind level ready (refused f) ready
+  read-no-task f e low high past is = not-read (inr (e, inr (inside low high, inl (le-leb n (getD order (level - 1) 0) past, sym is))))
+
+  pub reads : n ≤ 32 → (x : R) (id : ℕ) → some-short rows order bounds ≡ false → 1 ≤ level → level ≤ n → getD order (level - 1) 0 < n → x ≡ getD rows (getD order (level - 1) 0) x → id ≡ kind .ident x → Read kind level ready (told id (getD bounds (level - 1) 0)) ready
+  reads few x id e low high below x-is id-is =
+      let within : getD order (level - 1) 0 < length rows = omega (arith, long-all kind rows order bounds e .0) in
+      let there : row-of kind (take n rows) (getD order (level - 1) 0) ≡ x = getD-take n rows (getD order (level - 1) 0) (kind .blank) below ∙ sym (getD-read rows (getD order (level - 1) 0) x within x-is (kind .blank)) in
+      let answer : told-at ≡ told id (getD bounds (level - 1) 0) = ap (λ (k : ℕ). told k (getD bounds (level - 1) 0)) (ap (kind .ident) there ∙ sym id-is) in
+      subst (λ (a : Answer). Read kind level ready a ready) answer (read-at (e, (inside low high, (lt-leb n (getD order (level - 1) 0) below, tt))))

@@ -5,3 +5,4 @@ pub mod Promises
 pub mod Laws
 pub mod WorkedCalls
 pub mod Returns
+pub mod Orders

@@ -1,11 +1,23 @@
 // The calls on an open plan.
 ghost use mathlib.Core.Path.{_≡_};
 ghost use Rattle.plan.specs.Calls.{Amend, Enter, Withdraw};
-ghost use Rattle.plan.specs.Returns.{OnRows, done-or-refused};
+ghost use Rattle.plan.specs.Promises.{Promise};
+ghost use Rattle.plan.specs.Returns.{ArrangeReturns, Loads, OnRows, done-or-refused, letter-or-refused};
+use crate::memory::in_plan;
+use crate::memory::some_short;
+use crate::order::find_order;
+use feasibility::test::Test;
 use model::row::Row;
+use sheet::draft::Draft;
+use sheet::sheet::parse_sheet;
+use super::Arranged;
+use super::NotArranged;
 use super::Open;
 use table::fault::Fault;
+use table::refusal::Refusal;
+use table::rows::CAPACITY;
 use table::rows::append;
+use table::rows::judge_rows;
 use table::rows::remove;
 use table::rows::replace;
 
@@ -56,6 +68,70 @@ impl Open {
                 Ok(())
             }
             Err(fault) => Err(Fault::Plan(fault)),
+        }
+    }
+
+    // Replaces the whole table by a sheet, and answers the sheet's letter. A refused sheet leaves no task.
+    pub fn load<R: Row + Drop, D: Draft<R> + Drop>(
+        &mut self,
+        sheet: &[u8],
+        rows: &mut [R],
+    ) -> Result<u8, Fault>
+        ensures { λ r. ⌜ Loads (R·Row .meaning) (D·Draft .grammar) (D·Draft .mark) (D·Draft .letters) (now (sheet .entry)) (now (self .entry)) (now (rows .entry)) (letter-or-refused r) (now (self .exit)) (now (rows .exit)) ⌝ }
+    {
+        if rows.len() < CAPACITY {
+            return Err(Fault::InSheet(Refusal::ShortMemory, 0));
+        }
+        match parse_sheet::<R, D>(sheet, rows) {
+            Ok((tasks, letter)) => {
+                self.tasks = tasks;
+                Ok(letter)
+            }
+            Err(fault) => {
+                self.tasks = 0;
+                Err(fault)
+            }
+        }
+    }
+
+    // Judges every row again, and finds an order and its bounds by the test. The arranged plan, or the open one back.
+    pub fn arrange<R: Row, Q: Test<R>>(
+        self,
+        test: &Q,
+        rows: &[R],
+        order: &mut [u8],
+        bounds: &mut [u32],
+    ) -> Result<Arranged, NotArranged>
+        ensures arranges { λ r. ⌜ ArrangeReturns (R·Row .meaning) (Q·Test .answers) self (now (rows .entry)) (now (order .entry)) (now (order .exit)) (now (bounds .entry)) (now (bounds .exit)) r ⌝ }
+        ensures promise { λ _. ⌜ Promise (R·Row .meaning) ⌝ }
+    {
+        if some_short(rows, order, bounds) {
+            return Err(self.not_arranged(in_plan(Refusal::ShortMemory)));
+        }
+        if let Err(fault) = judge_rows(rows, self.tasks) {
+            return Err(self.not_arranged(Fault::Plan(fault)));
+        }
+        let Open { tasks } = self;
+        match find_order(test, &rows[0..tasks], order, bounds) {
+            Ok(questions) => Ok(Arranged { tasks, questions }),
+            Err(left) => Err(NotArranged {
+                plan: Open { tasks },
+                fault: Fault::Assignment(left.mask.count_ones() as usize),
+                left: left.mask,
+                questions: left.questions,
+            }),
+        }
+    }
+
+    // The plan given back, before any question is put.
+    fn not_arranged(self, fault: Fault) -> NotArranged
+        ensures { λ r. ⌜ (r .plan .tasks ≡ self .tasks) × (r .fault ≡ fault) × (r .left ≡ 0) × (r .questions ≡ 0) ⌝ }
+    {
+        NotArranged {
+            plan: self,
+            fault,
+            left: 0,
+            questions: 0,
         }
     }
 }
