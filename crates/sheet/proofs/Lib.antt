@@ -2,3 +2,11 @@ pub mod Total
 pub mod Steps
 pub mod Sheets
 pub mod Firsts
+pub mod Follows
+pub mod Lengths
+pub mod WholeSpelling
+pub mod Written
+pub mod Filled
+pub mod SegmentedSpelling
+pub mod Writing
+pub mod Cuts

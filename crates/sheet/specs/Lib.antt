@@ -6,3 +6,8 @@ pub mod SegmentedSheets
 pub mod WholeSheets
 pub mod Sheets
 pub mod Readers
+pub mod Spelling
+pub mod SegmentedTasks
+pub mod WholeTasks
+pub mod Writing
+pub mod Cuts

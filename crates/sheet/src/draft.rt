@@ -6,6 +6,7 @@ ghost use Rattle.sheet.specs.Commands.{command-answer, command-left};
 ghost use Rattle.sheet.specs.Language.{Grammar};
 use crate::command::CommandFault;
 use crate::command::Effect;
+use model::row::Row;
 
 pub trait Draft<R> {
     // Which commands may stand where, and what they do.
@@ -30,4 +31,10 @@ pub trait Draft<R> {
     fn command(&mut self, byte: u8, rest: &[u8]) -> Result<(Effect<R>, usize), CommandFault>
         ensures does { λ r. ⌜ r ≡ command-answer grammar (now (self .entry)) byte (now (rest .entry)) ⌝ }
         ensures leaves { λ _. ⌜ now (self .exit) ≡ command-left grammar (now (self .entry)) byte (now (rest .entry)) ⌝ };
+}
+
+// A kind of row with a sheet.
+pub trait SheetRow: Row {
+    // The draft in which its rows are read.
+    type Draft: Draft<Self> + Drop;
 }

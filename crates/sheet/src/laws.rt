@@ -1,10 +1,44 @@
-// Theorems on the sheet language, for every kind of row with a sheet.
+// Theorems on the sheet language.
+ghost use Rattle.model.specs.SegmentedRows.{segmented-kind};
+ghost use Rattle.model.specs.WholeRows.{whole-kind};
+ghost use Rattle.sheet.specs.Cuts.{Cut-is-cut};
+ghost use Rattle.sheet.specs.SegmentedSheets.{segmented-grammar};
+ghost use Rattle.sheet.specs.SegmentedTasks.{SegmentedTask};
 ghost use Rattle.sheet.specs.Sheets.{Nothing-follows, One-verdict};
+ghost use Rattle.sheet.specs.Spelling.{Good-is-written};
+ghost use Rattle.sheet.specs.WholeSheets.{whole-grammar};
+ghost use Rattle.sheet.specs.WholeTasks.{WholeTask};
+ghost use Rattle.sheet.specs.Writing.{SegmentedFits, Table-is-written, WholeFits, segmented-code, whole-code};
 
 // Every byte string is either accepted with one letter and list of rows, or refused with one fault; a byte after an accepted sheet is refused.
 pub fn one_verdict<S, R>() -> u8
     ensures one { λ _. ⌜ One-verdict S R ⌝ }
     ensures alone { λ _. ⌜ Nothing-follows S R ⌝ }
+{
+    0
+}
+
+// Accepted are exactly the sheets that are the kind, a letter, one spelling of each row of a lawful table of at most 32 rows, and the closing
+// command.
+pub fn good_is_written() -> u8
+    ensures segmented { λ _. ⌜ Good-is-written segmented-grammar SegmentedTask segmented-kind ⌝ }
+    ensures whole { λ _. ⌜ Good-is-written whole-grammar WholeTask whole-kind ⌝ }
+{
+    0
+}
+
+// What is written of a lawful table of at most 32 rows, task after task, is an accepted sheet with that table.
+pub fn table_is_written() -> u8
+    ensures segmented { λ _. ⌜ Table-is-written segmented-grammar segmented-kind SegmentedFits segmented-code ⌝ }
+    ensures whole { λ _. ⌜ Table-is-written whole-grammar whole-kind WholeFits whole-code ⌝ }
+{
+    0
+}
+
+// A sheet is refused as cut at a place exactly if whole commands stand up to that place, and from there on a proper part of an allowed one.
+pub fn cut_is_cut() -> u8
+    ensures segmented { λ _. ⌜ Cut-is-cut segmented-grammar segmented-kind ⌝ }
+    ensures whole { λ _. ⌜ Cut-is-cut whole-grammar whole-kind ⌝ }
 {
     0
 }

@@ -10,6 +10,7 @@ ghost use Rattle.sheet.specs.Language.{Parses, Step};
 ghost use Rattle.sheet.specs.Readers.{after-call, outcome-of};
 use crate::command::Effect;
 use crate::draft::Draft;
+use crate::draft::SheetRow;
 use model::row::Row;
 use table::fault::Fault;
 use table::refusal::Refusal;
@@ -25,7 +26,7 @@ pub(crate) struct Reader<D> {
 
 impl<D> Reader<D> {
     // One command. Whether it ended the sheet.
-    fn step<R: Row + Drop>(&mut self, bytes: &[u8], rows: &mut [R]) -> Result<bool, Fault>
+    fn step<R: Row>(&mut self, bytes: &[u8], rows: &mut [R]) -> Result<bool, Fault>
     where
         D: Draft<R>,
         requires within { ⌜ now self .at ≤ length (now bytes) ⌝ }
@@ -67,21 +68,21 @@ impl<D> Reader<D> {
 }
 
 // Reads the commands from a place on into the first rows. How many rows there are.
-pub(crate) fn parse_commands<R: Row + Drop, D: Draft<R> + Drop>(
+pub(crate) fn parse_commands<R: SheetRow>(
     bytes: &[u8],
     from: usize,
     rows: &mut [R],
 ) -> Result<usize, Fault>
     requires within { ⌜ from ≤ length (now bytes) ⌝ }
     requires room { ⌜ 32 ≤ length (now rows) ⌝ }
-    ensures parses { λ r. ⌜ Parses (D·Draft .grammar) (append-refusal (R·Row .meaning)) (D·Draft .grammar .start) [] from (drop from (now (bytes .entry))) (outcome-of (now (rows .exit)) r) ⌝ }
+    ensures parses { λ r. ⌜ Parses (Draft·Draft .grammar) (append-refusal (R·Row .meaning)) (Draft·Draft .grammar .start) [] from (drop from (now (bytes .entry))) (outcome-of (now (rows .exit)) r) ⌝ }
     ensures few { λ r. ⌜ elim r [ Ok n ↦ n ≤ 32 | Err f ↦ 0 ≤ 32 ] ⌝ }
     ensures past { λ _. ⌜ drop 32 (now (rows .exit)) ≡ drop 32 (now (rows .entry)) ⌝ }
 {
     let mut reader = Reader {
         at: from,
         count: 0,
-        draft: D::start(),
+        draft: R::Draft::start(),
     };
     while !reader.step(bytes, rows)? {}
     Ok(reader.count)

@@ -7,6 +7,7 @@ use crate::bytes::WHOLE_TASK;
 use crate::command::CommandFault;
 use crate::command::Effect;
 use crate::draft::Draft;
+use crate::draft::SheetRow;
 use crate::operands::four;
 use crate::operands::operands;
 use crate::operands::two;
@@ -58,4 +59,8 @@ pub impl Draft<Whole> for WholeDraft as WholeSheet {
             _ => Err(CommandFault::NotAllowed),
         }
     }
+}
+
+pub impl SheetRow for Whole as WholeSheetRow {
+    type Draft = WholeDraft;
 }

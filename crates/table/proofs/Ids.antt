@@ -7,7 +7,7 @@ use native.Mathlib.Omega.{arith}
 use lib.Dec.{eqb}
 use lib.ListN.{length, take, drop, getD, set}
 use Rattle.std.proofs.shelf.Lists.{take-more, getD-read}
-use Rattle.std.proofs.shelf.Tests.{or-from, or-left, or-right, or-parts, eq-eqb, cond-true, cond-false}
+use Rattle.std.proofs.shelf.Tests.{or-from, or-left, or-right, or-parts, eq-eqb, ne-eqb, cond-true, cond-false}
 use Rattle.std.specs.Options.{isSome}
 use Rattle.std.specs.declared.option.Option.{Option}
 use Rattle.std.specs.declared.option.Option.the-variants.{Some, None}
@@ -27,6 +27,10 @@ module _ {R : Type 0} (kind : Kind R) (id : ℕ) where
   one-at [] i d l e = absurd (omega arith)
   one-at (x ∷ xs) zero d l e = or-left _ _ (eq-eqb _ _ e)
   one-at (x ∷ xs) (suc i) d l e = or-right _ _ (one-at xs i d (omega arith) e)
+
+  pub none-at : (rows : List R) (d : R) → ((i : ℕ) → i < length rows → kind .ident (getD rows i d) ≡ id → ⊥) → has-id kind id rows ≡ false
+  none-at [] d n = refl
+  none-at (x ∷ xs) d n = or-from _ _ (ne-eqb _ _ (λ e. n 0 (omega arith) e)) (none-at xs d (λ i l e. n (suc i) (omega arith) e))
 
   pub first-some : (rows : List R) (o : Option ℕ) → FirstWithId kind id rows o → isSome o ≡ has-id kind id rows
   first-some rows None f = sym f

@@ -12,6 +12,7 @@ use crate::bytes::TASK_END;
 use crate::command::CommandFault;
 use crate::command::Effect;
 use crate::draft::Draft;
+use crate::draft::SheetRow;
 use crate::operands::four;
 use crate::operands::operands;
 use crate::operands::two;
@@ -122,4 +123,8 @@ pub impl Draft<Segmented> for SegmentedDraft as SegmentedSheet {
             _ => Err(CommandFault::NotAllowed),
         }
     }
+}
+
+pub impl SheetRow for Segmented as SegmentedSheetRow {
+    type Draft = SegmentedDraft;
 }

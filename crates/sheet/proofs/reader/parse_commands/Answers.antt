@@ -17,9 +17,9 @@ returns-in-Break-step g c =
 
 pub loop-reader-again : need.loop-reader-again
 loop-reader-again g c =
-    (λ o r. c .loop-reader .inv .0 o (step-on (g .D·Draft .grammar) (append-refusal (g .R·Row .meaning)) (c .loop-reader .reader .draft) (take (c .loop-reader .reader .count) (c .loop-reader .rows)) (c .loop-reader .reader .at) (drop (c .loop-reader .reader .at) (c .args .bytes .now)) (c .step .last .self .draft) (take (c .step .last .self .count) (c .step .last .rows)) (c .step .last .self .at) (drop (c .step .last .self .at) (c .args .bytes .now)) (c .in-Continue-step .field-0) o (c .if-not-branch .taken) (c .in-Continue-step .ensures tt .steps) r), search needs, search needs, search needs)
+    (λ o r. c .loop-reader .inv .0 o (step-on (g .Draft·Draft .grammar) (append-refusal (g .R·Row .meaning)) (c .loop-reader .reader .draft) (take (c .loop-reader .reader .count) (c .loop-reader .rows)) (c .loop-reader .reader .at) (drop (c .loop-reader .reader .at) (c .args .bytes .now)) (c .step .last .self .draft) (take (c .step .last .self .count) (c .step .last .rows)) (c .step .last .self .at) (drop (c .step .last .self .at) (c .args .bytes .now)) (c .in-Continue-step .field-0) o (c .if-not-branch .taken) (c .in-Continue-step .ensures tt .steps) r), search needs, search needs, search needs)
 
 pub returns : need.returns
 returns g c =
     let table = take (c .step .last .self .count) (c .step .last .rows) in
-    record { parses = c .loop-reader .inv .0 (accepted table) (step-ended (g .D·Draft .grammar) (append-refusal (g .R·Row .meaning)) (c .loop-reader .reader .draft) (take (c .loop-reader .reader .count) (c .loop-reader .rows)) (c .loop-reader .reader .at) (drop (c .loop-reader .reader .at) (c .args .bytes .now)) (c .step .last .self .draft) (take (c .step .last .self .count) (c .step .last .rows)) (c .step .last .self .at) (drop (c .step .last .self .at) (c .args .bytes .now)) (c .in-Continue-step .field-0) (accepted table) (c .if-not-branch .left) (c .in-Continue-step .ensures tt .steps)); few = search needs; past = search needs }
+    record { parses = c .loop-reader .inv .0 (accepted table) (step-ended (g .Draft·Draft .grammar) (append-refusal (g .R·Row .meaning)) (c .loop-reader .reader .draft) (take (c .loop-reader .reader .count) (c .loop-reader .rows)) (c .loop-reader .reader .at) (drop (c .loop-reader .reader .at) (c .args .bytes .now)) (c .step .last .self .draft) (take (c .step .last .self .count) (c .step .last .rows)) (c .step .last .self .at) (drop (c .step .last .self .at) (c .args .bytes .now)) (c .in-Continue-step .field-0) (accepted table) (c .if-not-branch .left) (c .in-Continue-step .ensures tt .steps)); few = search needs; past = search needs }

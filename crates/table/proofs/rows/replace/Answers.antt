@@ -15,7 +15,7 @@ use Rattle.table.proofs.rows.replace.Needs as need
 pub returns : need.returns
 returns g c =
     let kind = g .R·Row .meaning in
-    let found : FirstWithId kind (kind .ident (c .args .row)) (table-of (c .args .count) (c .args .rows .now)) (Some (c .in-Some .place)) = first-in kind (c .id .result) _ (c .table .result .now) _ (Some (c .in-Some .place)) (c .id .ensures) (c .table .ensures) (c .in-Some .ensures tt) in
+    let found : FirstWithId kind (kind .ident (c .args .row)) (table-of (c .args .count) (c .args .rows .now)) (Some (c .in-Some .place)) = first-in kind (c .id .result) _ (c .table .result .now) (table-of (c .args .count) (c .args .rows .now)) (Some (c .in-Some .place)) (c .id .ensures) (c .table .ensures) (c .in-Some .ensures tt) in
     let enough : leb 32 (length (c .args .rows .now)) ≡ true = le-leb _ _ (c .if-rows-lt-CAPACITY .left) in
     let lawful : kind .lawful (c .args .row) ≡ true = sym (c .is-lawful .ensures) ∙ c .if-not-is-lawful .left in
     let held : has-id kind (kind .ident (c .args .row)) (table-of (c .args .count) (c .args .rows .now)) ≡ true = one-at kind _ _ (c .in-Some .place) (kind .blank) (found .0) (found .2) in
