@@ -1,12 +1,12 @@
 -- What judging rows and finding an order return, as arrange has it. Assumes nothing.
-use mathlib.Core.Path.{_≡_, refl, sym, ap, _∙_, subst}
-use mathlib.Core.Logic.{_⊎_, inl, inr}
+use mathlib.Core.Path.{_≡_, refl, sym, ap, subst}
+use mathlib.Core.Logic.{inl, inr}
 use mathlib.Core.Bool.{Bool, true, false, cond}
-use mathlib.Core.List.{List, []}
-use Prim.Native.Nat.{ℕ, _+_, _-_, _≤_, _<_}
+use mathlib.Core.List.{List}
+use Prim.Native.Nat.{ℕ, _-_, _≤_, _<_}
 use native.Mathlib.Omega.{arith}
 use lib.Count.{ones}
-use lib.ListN.{length, getD, take}
+use lib.ListN.{length, take}
 use Rattle.std.proofs.shelf.Lists.{getD-take, take-take, length-take-le}
 use Rattle.std.proofs.shelf.Tests.{not-from-true, not-from-false}
 use Rattle.std.specs.shelf.Lists.{joined}
@@ -22,8 +22,8 @@ use Rattle.table.specs.declared.fault.Fault.the-variants.{Plan, Assignment}
 use Rattle.table.specs.declared.fault.PlanFault.{PlanFault}
 use Rattle.table.specs.declared.refusal.Refusal.{Refusal}
 use Rattle.table.specs.declared.refusal.Refusal.the-variants.{ShortMemory, RowUnlawful, IdTaken}
-use Rattle.table.specs.Tables.{written, has-id, row-refusal, table-of, LawfulTable, FirstFault}
-use Rattle.plan.specs.States.{State, opened, arranged, Answer, done, refused-beside}
+use Rattle.table.specs.Tables.{has-id, row-refusal, table-of, LawfulTable, FirstFault}
+use Rattle.plan.specs.States.{State, opened, arranged, done, refused-beside}
 use Rattle.plan.specs.Calls.{Passed, Met, in-plan, some-short, row-checks, arrange-checks, Arrange, given, none-fits, not-arranged}
 use Rattle.plan.specs.Orders.{OrderFound, NoOrderFound}
 use Rattle.plan.proofs.Checks.{passed-at, passed-all, met-at}

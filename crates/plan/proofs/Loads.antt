@@ -1,6 +1,6 @@
 -- What reading a sheet into memory returns, as load has it. Assumes nothing.
-use mathlib.Core.Path.{_≡_, refl, sym, ap, _∙_, subst}
-use mathlib.Core.Logic.{inl, inr}
+use mathlib.Core.Path.{_≡_, refl, sym, ap, subst}
+use mathlib.Core.Logic.{inl}
 use mathlib.Core.Bool.{Bool}
 use mathlib.Core.List.{List, []}
 use Prim.Native.Nat.{ℕ, _≤_, _<_}
@@ -15,12 +15,12 @@ use Rattle.table.specs.declared.fault.Fault.the-variants.{InSheet}
 use Rattle.table.specs.declared.refusal.Refusal.the-variants.{ShortMemory}
 use Rattle.table.specs.Tables.{append-refusal, written}
 use Rattle.sheet.specs.Language.{Grammar}
-use Rattle.sheet.specs.Sheets.{Verdict, good, bad, Sheet, rows-of, answer-of, Loaded, Replaces}
+use Rattle.sheet.specs.Sheets.{Verdict, good, bad, Sheet, rows-of, answer-of, Replaces}
 use Rattle.sheet.proofs.Sheets.{one-verdict}
 use Rattle.plan.specs.declared.stage.Open.{Open}
-use Rattle.plan.specs.States.{State, opened, Answer, letter, refused}
+use Rattle.plan.specs.States.{State, opened, letter, refused}
 use Rattle.plan.specs.Calls.{Load, loaded, sheet-refused, not-loaded}
-use Rattle.plan.specs.Returns.{OnRows, Loads}
+use Rattle.plan.specs.Returns.{Loads}
 use Rattle.plan.proofs.Memories.{not-short}
 use Rattle.plan.proofs.Readings.{sheet-few}
 
@@ -56,8 +56,8 @@ module _ {S R : Type 0} (kind : Kind R) (g : Grammar S R) (mark : ℕ) (letters 
           verdict = good table byte;
           sheet = s;
           loads = λ order bounds.
-            let there : opened (length table) (written (kind .blank) table rows) order bounds ≡ opened (plan′ .tasks) after order bounds = rw (e, size, m) refl in
-            subst (λ (t : State R). Load kind (good table byte) (opened (plan .tasks) rows order bounds) (letter byte) t) there (loaded (not-short rows room, tt));
+              let there : opened (length table) (written (kind .blank) table rows) order bounds ≡ opened (plan′ .tasks) after order bounds = rw (e, size, m) refl in
+              subst (λ (t : State R). Load kind (good table byte) (opened (plan .tasks) rows order bounds) (letter byte) t) there (loaded (not-short rows room, tt));
         }
 
     pub load-refused : {f : Fault} (plan plan′ : Open) → plan′ .tasks ≡ 0 → Read-into (Err f) → Loads kind g mark letters bytes plan rows (refused f) plan′ after
@@ -71,7 +71,7 @@ module _ {S R : Type 0} (kind : Kind R) (g : Grammar S R) (mark : ℕ) (letters 
               verdict = bad other;
               sheet = s;
               loads = λ order bounds.
-                let there : opened 0 (written (kind .blank) [] rows) order bounds ≡ opened (plan′ .tasks) after order bounds = rw (e, m) refl in
-                subst (λ (t : State R). Load kind (bad other) (opened (plan .tasks) rows order bounds) (refused f) t) there
-                (subst (λ (k : Fault). Load kind (bad other) (opened (plan .tasks) rows order bounds) (refused k) (opened 0 (written (kind .blank) [] rows) order bounds)) same (sheet-refused (not-short rows room, tt)));
+                  let there : opened 0 (written (kind .blank) [] rows) order bounds ≡ opened (plan′ .tasks) after order bounds = rw (e, m) refl in
+                  subst (λ (t : State R). Load kind (bad other) (opened (plan .tasks) rows order bounds) (refused f) t) there
+                  (subst (λ (k : Fault). Load kind (bad other) (opened (plan .tasks) rows order bounds) (refused k) (opened 0 (written (kind .blank) [] rows) order bounds)) same (sheet-refused (not-short rows room, tt)));
             }

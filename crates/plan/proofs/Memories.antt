@@ -1,12 +1,13 @@
 -- Memories of at least 32 entries. Assumes nothing.
 use mathlib.Core.Path.{_≡_, sym, ap, _∙_}
 use mathlib.Core.Bool.{false}
-use mathlib.Core.List.{List, [], _∷_, _++_}
-use Prim.Native.Nat.{ℕ, _+_, _-_, _≤_, _<_}
+use mathlib.Core.List.{List, _++_}
+use Prim.Native.Nat.{ℕ, _+_, _-_, _≤_}
 use native.Mathlib.Omega.{arith}
-use lib.ListN.{length, take, drop, getD, set, replicate, length-append, length-drop, length-replicate}
+use lib.ListN.{length, take, drop, replicate, length-append, length-drop, length-replicate}
 use lib.Seq.{take-at, drop-at, drop-drop, drop-append-add}
-use Rattle.std.proofs.shelf.Lists.{append-assoc, drop-more, set-at, replicate-more, drop-append-le, drop-replicate}
+use borrow.Rule.Slice.PartMut.{midOf, postOf, putMid, mid-len, post-is}
+use Rattle.std.proofs.shelf.Lists.{append-assoc, length-take-le}
 use Rattle.std.proofs.shelf.Tests.{ltb-false, le-ltb}
 use Rattle.table.specs.Tables.{written}
 use Rattle.plan.specs.Calls.{short}
@@ -38,23 +39,14 @@ front-past front memory n m h e =
 pub front-length : {X : Type 0} (front memory : List X) (n : ℕ) → n ≤ length memory → length front ≡ n → length (front ++ drop n memory) ≡ length memory
 front-length front memory n l e = simp (length-append, length-drop) (omega arith)
 
--- the first entries written with one value, one by one
-pub cleared-more : {X : Type 0} (memory : List X) (i : ℕ) (value : X) → i < length memory → set (replicate i value ++ drop i memory) i value ≡ replicate (i + 1) value ++ drop (i + 1) memory
-cleared-more {X} memory i value h =
-    ap (λ (l : List X). set (replicate i value ++ l) i value) (drop-more memory i value h)
-    ∙ (set-at (replicate i value) (getD memory i value) (drop (i + 1) memory) value i (length-replicate i value)
-    ∙ (sym (append-assoc (replicate i value) (value ∷ []) (drop (i + 1) memory)) ∙ ap (λ (l : List X). l ++ drop (i + 1) memory) (replicate-more i value)))
+-- 0 written from a place to the 32nd
+pub filled-from : (memory part : List ℕ) (n : ℕ) → n ≤ 32 → 32 ≤ length memory → part ≡ replicate (length (midOf n (32 - n) memory)) 0 → putMid n (32 - n) memory part ≡ written 0 (take n memory) memory
+filled-from memory part n h l e =
+    let size : length (midOf n (32 - n) memory) ≡ 32 - length (take n memory) = mid-len n 32 memory l ∙ ap (λ (k : ℕ). 32 - k) (sym (length-take-le n memory (omega arith))) in
+    let zeros : part ≡ replicate (32 - length (take n memory)) 0 = e ∙ ap (λ (k : ℕ). replicate k 0) size in
+    ap (λ (ys : List ℕ). take n memory ++ (ys ++ postOf n (32 - n) memory)) zeros
+    ∙ (ap (λ (ys : List ℕ). take n memory ++ (replicate (32 - length (take n memory)) 0 ++ ys)) (post-is n 32 memory h) ∙ sym (append-assoc (take n memory) (replicate (32 - length (take n memory)) 0) (drop 32 memory)))
 
-pub cleared-all : {X : Type 0} (memory : List X) (i : ℕ) (value : X) → i ≡ 32 → replicate i value ++ drop i memory ≡ written value [] memory
-cleared-all memory i value e = ap (λ (k : ℕ). replicate k value ++ drop k memory) e
-
--- entries over a cleared memory
-pub written-over : (entries memory : List ℕ) (n : ℕ) → length entries ≡ n → n ≤ 32 → entries ++ drop n (written 0 [] memory) ≡ written 0 entries memory
-written-over entries memory n e h =
-    let le : n ≤ length {A = ℕ} (replicate 32 0) = omega (arith, length-replicate {A = ℕ} 32 0) in
-    ap (λ (l : List ℕ). entries ++ l) (drop-append-le n (replicate 32 0) (drop 32 memory) le ∙ ap (λ (l : List ℕ). l ++ drop 32 memory) (drop-replicate n 32 0 ∙ ap (λ (k : ℕ). replicate (32 - k) 0) (sym e)))
-    ∙ sym (append-assoc entries (replicate (32 - length entries) 0) (drop 32 memory))
-
--- what is cleared again is as if it was cleared once
-pub cleared-again : (cleared memory after : List ℕ) → cleared ≡ written 0 [] memory → drop 32 after ≡ drop 32 cleared → written 0 [] after ≡ written 0 [] memory
-cleared-again cleared memory after e f = ap (λ (l : List ℕ). replicate 32 0 ++ l) (f ∙ (ap (drop 32) e ∙ written-past 0 [] memory (omega arith)))
+-- what is written over the first entries of two memories, alike past 32
+pub written-same : (entries memory memory′ : List ℕ) → drop 32 memory′ ≡ drop 32 memory → written 0 entries memory′ ≡ written 0 entries memory
+written-same entries memory memory′ e = ap (λ (ys : List ℕ). entries ++ replicate (32 - length entries) 0 ++ ys) e

@@ -1,26 +1,24 @@
 -- The assignment of priorities over memories of 32 entries. Assumes nothing.
 use mathlib.Core.Path.{_≡_, refl, sym, ap, _∙_, subst}
 use mathlib.Core.Logic.{_⊎_, inl, inr}
-use mathlib.Core.Bool.{Bool, true, false, cond, false≢true}
+use mathlib.Core.Bool.{true, false, cond}
 use mathlib.Core.List.{List, [], _∷_, _++_}
 use Prim.Native.Nat.{ℕ, zero, suc, _+_, _-_, _*_, _/_, _%_, _^_, _≤_, _<_}
 use native.Mathlib.Omega.{arith}
 use lib.Count.{ones, ones-cat, ones-ones}
-use lib.Dec.{eqb, leb}
 use lib.ListN.{length, take, drop, length-append}
 use Rattle.std.proofs.shelf.Bits.{mod-pow-add, mod-below, pow-pos}
-use Rattle.std.proofs.shelf.Lists.{length-take-le, length-push}
-use Rattle.std.proofs.shelf.Tests.{and-from, le-leb, cases-bool, eqb-true, eqb-false}
+use Rattle.std.proofs.shelf.Lists.{length-take-le, length-push, take-at}
+use Rattle.std.proofs.shelf.Tests.{cases-bool, eqb-true, eqb-false}
 use Rattle.std.specs.declared.option.Option.{Option}
-use Rattle.std.specs.declared.result.Result.the-variants.{Ok, Err}
+use Rattle.std.specs.declared.result.Result.the-variants.{Err}
 use Rattle.model.specs.Rows.{Kind}
 use Rattle.feasibility.specs.Tests.{Answers, TestRules}
 use Rattle.feasibility.specs.Masks.{row-of, in-mask, mask-of, has, bit-at}
 use Rattle.feasibility.proofs.Masks.{pool-suc, mask-in}
 use Rattle.table.specs.Tables.{written}
-use Rattle.assign.specs.Assignment.{accepted, stuck, Filled, none-yet, one-more}
-use Rattle.assign.specs.Laws.{all-places, Arranges}
-use Rattle.assign.specs.Search.{has-room, Accepts, Sticks, Searched}
+use Rattle.assign.specs.Assignment.{Filled, none-yet, one-more}
+use Rattle.assign.specs.Search.{Accepts, Sticks, Searched}
 use Rattle.assign.specs.declared.order.Left.{Left}
 use Rattle.assign.specs.declared.order.NoOrder.{NoOrder}
 use Rattle.assign.specs.declared.order.NoOrder.the-variants.{Stuck}
@@ -29,7 +27,7 @@ use Rattle.assign.proofs.Outcomes.{takes-in}
 use Rattle.assign.proofs.Optimal.{laws}
 use Rattle.assign.proofs.Steps.{length-places}
 use Rattle.plan.specs.Orders.{OrderFound, NoOrderFound}
-use Rattle.plan.proofs.Memories.{written-length, written-over, cleared-again, front-past}
+use Rattle.plan.proofs.Memories.{written-same, front-past}
 
 -- a mask has as many bits as places
 bits-in : (mask n : ℕ) → ones (mask % 2 ^ n) ≡ length (in-mask mask n)
@@ -58,32 +56,28 @@ past-filled : (memory entries after : List ℕ) (k n : ℕ) → after ≡ take k
 past-filled memory entries after k n is len h le =
     ap (drop 32) is ∙ front-past (take k memory ++ entries) memory n 32 h (length-append (take k memory) entries ∙ (ap (λ (j : ℕ). j + length entries) (length-take-le k memory le) ∙ len))
 
-module _ {R : Type 0} (kind : Kind R) (test : Answers R) (rules : TestRules kind test) (table : List R) (order bounds cleared-order cleared-bounds order′ bounds′ : List ℕ) (is-order : cleared-order ≡ written 0 [] order) (is-bounds : cleared-bounds ≡ written 0 [] bounds) (few : length table ≤ 32) (long-order : 32 ≤ length order) (long-bounds : 32 ≤ length bounds) where
-  as-long-order : length cleared-order ≡ length order
-  as-long-order = ap length is-order ∙ written-length 0 [] order (omega arith) long-order
+module _ {R : Type 0} (kind : Kind R) (test : Answers R) (rules : TestRules kind test) (table : List R) (order bounds order′ bounds′ : List ℕ) (few : length table ≤ 32) (long-order : 32 ≤ length order) (long-bounds : 32 ≤ length bounds) where
+  -- entries in front of a memory, with 0 after them
+  in-front : (entries memory memory′ : List ℕ) → length entries ≡ length table → memory′ ≡ entries ++ drop (length table) memory → written 0 (take (length table) memory′) memory′ ≡ written 0 entries memory
+  in-front entries memory memory′ many is =
+      ap (λ (l : List ℕ). written 0 l memory′) (ap (take (length table)) is ∙ take-at entries (drop (length table) memory) (length table) many)
+      ∙ written-same entries memory memory′ (ap (drop 32) is ∙ front-past entries memory (length table) 32 few many)
 
-  as-long-bounds : length cleared-bounds ≡ length bounds
-  as-long-bounds = ap length is-bounds ∙ written-length 0 [] bounds (omega arith) long-bounds
-
-  pub room : has-room table cleared-order cleared-bounds ≡ true
-  room = and-from _ _ (le-leb (length table) 32 few) (and-from _ _ (le-leb (length table) (length cleared-order) (omega (arith, as-long-order))) (le-leb (length table) (length cleared-bounds) (omega (arith, as-long-bounds))))
-
-  pub order-found : (questions : ℕ) → Accepts kind test table cleared-order order′ cleared-bounds bounds′ questions → OrderFound kind test table order order′ bounds bounds′ questions
-  order-found questions a =
+  pub order-found : {order″ bounds″ : List ℕ} (questions : ℕ) → Accepts kind test table order order′ bounds bounds′ questions → order″ ≡ written 0 (take (length table) order′) order′ → bounds″ ≡ written 0 (take (length table) bounds′) bounds′ → OrderFound kind test table order order″ bounds bounds″ questions
+  order-found questions a co cb =
       let f = laws kind test rules table .accepted-fits (a .chosen) (a .answered) questions (a .found) in
       let many : length (a .chosen) ≡ length table = length-~ (f .0) ∙ length-places (length table) in
-      let many₂ : length (a .answered) ≡ length table = f .1 .as-many ∙ many in
       record {
         chosen = a .chosen;
         answered = a .answered;
         found = a .found;
-        order-is = a .order-is ∙ (ap (λ (l : List ℕ). a .chosen ++ drop (length table) l) is-order ∙ written-over (a .chosen) order (length table) many few);
-        bounds-is = a .bounds-is ∙ (ap (λ (l : List ℕ). a .answered ++ drop (length table) l) is-bounds ∙ written-over (a .answered) bounds (length table) many₂ few);
+        order-is = co ∙ in-front (a .chosen) order order′ many (a .order-is);
+        bounds-is = cb ∙ in-front (a .answered) bounds bounds′ (f .1 .as-many ∙ many) (a .bounds-is);
       }
 
-  pub no-order-found : {order″ bounds″ : List ℕ} {why : NoOrder} (s : Left) → why ≡ Stuck s → Searched kind test table cleared-order order′ cleared-bounds bounds′ (Err why) → order″ ≡ written 0 [] order′ → bounds″ ≡ written 0 [] bounds′ → NoOrderFound kind test table order order″ bounds bounds″ s
+  pub no-order-found : {order″ bounds″ : List ℕ} {why : NoOrder} (s : Left) → why ≡ Stuck s → Searched kind test table order order′ bounds bounds′ (Err why) → order″ ≡ written 0 [] order′ → bounds″ ≡ written 0 [] bounds′ → NoOrderFound kind test table order order″ bounds bounds″ s
   no-order-found s e d co cb =
-      let a : Sticks kind test table cleared-order order′ cleared-bounds bounds′ s = subst (λ (w : NoOrder). Searched kind test table cleared-order order′ cleared-bounds bounds′ (Err w)) e d in
+      let a : Sticks kind test table order order′ bounds bounds′ s = subst (λ (w : NoOrder). Searched kind test table order order′ bounds bounds′ (Err w)) e d in
       let f = filled-length (test .answer) (row-of kind table) (a .filled) in
       let p = length-places (length table) in
       let within : s .mask ≡ s .mask % 2 ^ length table = a .mask-is ∙ (ap mask-of (a .left-is) ∙ mask-in (s .mask) (length table)) in
@@ -94,6 +88,6 @@ module _ {R : Type 0} (kind : Kind R) (test : Answers R) (rules : TestRules kind
         mask-is = a .mask-is;
         counted = counted;
         few-left = omega (arith, counted);
-        order-is = co ∙ cleared-again cleared-order order order′ is-order (past-filled cleared-order (a .chosen) order′ (length (a .left)) (length table) (a .order-is) (omega arith) few (omega (arith, as-long-order)));
-        bounds-is = cb ∙ cleared-again cleared-bounds bounds bounds′ is-bounds (past-filled cleared-bounds (a .answered) bounds′ (length (a .left)) (length table) (a .bounds-is) (omega arith) few (omega (arith, as-long-bounds)));
+        order-is = co ∙ written-same [] order order′ (past-filled order (a .chosen) order′ (length (a .left)) (length table) (a .order-is) (omega arith) few (omega arith));
+        bounds-is = cb ∙ written-same [] bounds bounds′ (past-filled bounds (a .answered) bounds′ (length (a .left)) (length table) (a .bounds-is) (omega arith) few (omega arith));
       }

@@ -19,8 +19,9 @@ use Rattle.table.specs.declared.fault.Fault.the-variants.{Plan}
 use Rattle.table.specs.declared.fault.PlanFault.{PlanFault}
 use Rattle.table.specs.declared.refusal.Refusal.the-variants.{ShortMemory, TableFull, RowUnlawful, IdTaken, NoSuchTask}
 use Rattle.table.specs.Tables.{has-id, plan-fault, append-fault, row-refusal, absent-fault, remove-fault, replace-fault, table-of, after-table, replaced, removed}
-use Rattle.plan.specs.States.{State, opened, arranged, Answer, done, told, refused}
-use Rattle.plan.specs.Calls.{Passed, Met, in-plan, short, some-short, enter-checks, amend-checks, withdraw-checks, Enter, entered, not-entered, Amend, amended, not-amended, Withdraw, withdrawn, not-withdrawn, Read, read-at, not-read}
+use Rattle.plan.specs.States.{State, opened, arranged, Answer, done, told, refused, tasks-of}
+use Rattle.plan.specs.Calls.{Passed, Met, in-plan, short, some-short, enter-checks, amend-checks, withdraw-checks, Enter, entered, not-entered, Amend, amended, not-amended, Withdraw, withdrawn, not-withdrawn, Reopen, reopened, Read, read-at, not-read}
+use Rattle.plan.specs.Returns.{ReopenMeans}
 use Rattle.plan.proofs.Effects.{long-all}
 
 -- the fault of the first check that is met
@@ -165,3 +166,10 @@ module _ {R : Type 0} (kind : Kind R) (rows : List R) (order bounds : List ℕ) 
       let there : row-of kind (take n rows) (getD order (level - 1) 0) ≡ x = getD-take n rows (getD order (level - 1) 0) (kind .blank) below ∙ sym (getD-read rows (getD order (level - 1) 0) x within x-is (kind .blank)) in
       let answer : told-at ≡ told id (getD bounds (level - 1) 0) = ap (λ (k : ℕ). told k (getD bounds (level - 1) 0)) (ap (kind .ident) there ∙ sym id-is) in
       subst (λ (a : Answer). Read kind level ready a ready) answer (read-at (e, (inside low high, (lt-leb n (getD order (level - 1) 0) below, tt))))
+
+pub reopen-means : {R : Type 0} → ReopenMeans R
+reopen-means {R} kind plan after rows order bounds = (λ e. rw e reopened, λ c. sym (back c refl))
+  where
+    -- a plan reopened has the tasks that it had
+    back : {s t : State R} {a : Answer} → Reopen kind s a t → t ≡ opened (after .tasks) rows order bounds → tasks-of s ≡ after .tasks
+    back reopened e = ap tasks-of e

@@ -1,4 +1,6 @@
 -- What the calls of a plan return, in the words of their relations. Assumes nothing.
+use mathlib.Core.Path.{_≡_}
+use mathlib.Core.Logic.{_↔_}
 use mathlib.Core.Bool.{Bool}
 use mathlib.Core.List.{List}
 use Prim.Native.Nat.{ℕ}
@@ -14,7 +16,7 @@ use Rattle.plan.specs.declared.stage.Open.{Open}
 use Rattle.plan.specs.declared.stage.Arranged.{Arranged}
 use Rattle.plan.specs.declared.stage.NotArranged.{NotArranged}
 use Rattle.plan.specs.States.{State, opened, arranged, Answer, done, letter, told, refused, refused-beside}
-use Rattle.plan.specs.Calls.{Load, Arrange, Reopen, Read}
+use Rattle.plan.specs.Calls.{Load, Arrange, Reopen}
 
 abbrev pub done-or-refused : Result (Unit {0}) Fault → Answer
 done-or-refused (Ok u) = done
@@ -48,3 +50,9 @@ ArrangeReturns kind test plan rows order order′ bounds bounds′ (Err e) =
 -- the state of an arranged plan
 abbrev pub state-of : {R : Type 0} → Arranged → List R → List ℕ → List ℕ → State R
 state-of plan rows order bounds = arranged (plan .tasks) (plan .questions) rows order bounds
+
+-- reopening: the numbers say the whole of it, whatever rows the memory holds
+abbrev pub ReopenMeans : Type 0 → Type 0
+ReopenMeans R =
+    (kind : Kind R) (plan : Arranged) (after : Open) (rows : List R) (order bounds : List ℕ)
+    → (after .tasks ≡ plan .tasks) ↔ Reopen kind (state-of plan rows order bounds) done (opened (after .tasks) rows order bounds)

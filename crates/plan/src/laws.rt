@@ -1,5 +1,6 @@
 // Theorems on the calls of a plan and on sequences of them, for every type of rows.
 ghost use Rattle.plan.specs.Laws.{ArrangedReadable, CallsDetermined, NothingWrittenPast, OnlyTasksMatter, Promises, SheetsRead, TablesMade};
+ghost use Rattle.plan.specs.Returns.{ReopenMeans};
 ghost use Rattle.plan.specs.WorkedCalls.{Worked};
 
 // Each call on its stage has exactly one answer and one state after.
@@ -40,6 +41,13 @@ pub fn arranged_plans_are_readable<R>() -> u8
 // Accepted orders hold, refusals are exact, and no sequence of calls reaches an order that does not hold.
 pub fn promise_is_kept<R>() -> u8
     ensures { λ _. ⌜ Promises R ⌝ }
+{
+    0
+}
+
+// What reopen ensures is its relation.
+pub fn reopening_is_exact<R>() -> u8
+    ensures { λ _. ⌜ ReopenMeans R ⌝ }
 {
     0
 }

@@ -2,11 +2,11 @@
 ghost use mathlib.Core.Path.{_≡_};
 ghost use Rattle.plan.specs.Calls.{Read};
 ghost use Rattle.plan.specs.Returns.{state-of, told-or-refused};
+use super::Arranged;
+use super::Open;
 use crate::memory::in_plan;
 use crate::memory::some_short;
 use model::row::Row;
-use super::Arranged;
-use super::Open;
 use table::fault::Fault;
 use table::refusal::Refusal;
 

@@ -3,16 +3,16 @@ ghost use mathlib.Core.Path.{_≡_};
 ghost use Rattle.plan.specs.Calls.{Amend, Enter, Withdraw};
 ghost use Rattle.plan.specs.Promises.{Promise};
 ghost use Rattle.plan.specs.Returns.{ArrangeReturns, Loads, OnRows, done-or-refused, letter-or-refused};
+use super::Arranged;
+use super::NotArranged;
+use super::Open;
 use crate::memory::in_plan;
 use crate::memory::some_short;
 use crate::order::find_order;
 use feasibility::test::Test;
 use model::row::Row;
-use sheet::draft::Draft;
+use sheet::draft::SheetRow;
 use sheet::sheet::parse_sheet;
-use super::Arranged;
-use super::NotArranged;
-use super::Open;
 use table::fault::Fault;
 use table::refusal::Refusal;
 use table::rows::CAPACITY;
@@ -72,17 +72,13 @@ impl Open {
     }
 
     // Replaces the whole table by a sheet, and answers the sheet's letter. A refused sheet leaves no task.
-    pub fn load<R: Row + Drop, D: Draft<R> + Drop>(
-        &mut self,
-        sheet: &[u8],
-        rows: &mut [R],
-    ) -> Result<u8, Fault>
-        ensures { λ r. ⌜ Loads (R·Row .meaning) (D·Draft .grammar) (D·Draft .mark) (D·Draft .letters) (now (sheet .entry)) (now (self .entry)) (now (rows .entry)) (letter-or-refused r) (now (self .exit)) (now (rows .exit)) ⌝ }
+    pub fn load<R: SheetRow>(&mut self, sheet: &[u8], rows: &mut [R]) -> Result<u8, Fault>
+        ensures { λ r. ⌜ Loads (R·Row .meaning) (Draft·Draft .grammar) (Draft·Draft .mark) (Draft·Draft .letters) (now (sheet .entry)) (now (self .entry)) (now (rows .entry)) (letter-or-refused r) (now (self .exit)) (now (rows .exit)) ⌝ }
     {
         if rows.len() < CAPACITY {
             return Err(Fault::InSheet(Refusal::ShortMemory, 0));
         }
-        match parse_sheet::<R, D>(sheet, rows) {
+        match parse_sheet(sheet, rows) {
             Ok((tasks, letter)) => {
                 self.tasks = tasks;
                 Ok(letter)
