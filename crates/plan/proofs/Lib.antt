@@ -1,0 +1,15 @@
+pub mod Checks
+pub mod Determined
+pub mod Memories
+pub mod Places
+pub mod Rows
+pub mod Effects
+pub mod Promises
+pub mod Sequences
+pub mod Readings
+pub mod Alike
+pub mod Worked
+pub mod Returns
+pub mod Orders
+pub mod Loads
+pub mod Arranges
