@@ -4,11 +4,12 @@ ghost use Rattle.model.specs.WholeRows.{whole-kind};
 ghost use Rattle.sheet.specs.Cuts.{Cut-is-cut};
 ghost use Rattle.sheet.specs.SegmentedSheets.{segmented-grammar};
 ghost use Rattle.sheet.specs.SegmentedTasks.{SegmentedTask};
-ghost use Rattle.sheet.specs.Sheets.{Nothing-follows, One-verdict};
+ghost use Rattle.sheet.specs.Sheets.{Good-is-lawful, Nothing-follows, One-verdict};
 ghost use Rattle.sheet.specs.Spelling.{Good-is-written};
 ghost use Rattle.sheet.specs.WholeSheets.{whole-grammar};
 ghost use Rattle.sheet.specs.WholeTasks.{WholeTask};
 ghost use Rattle.sheet.specs.Writing.{SegmentedFits, Table-is-written, WholeFits, segmented-code, whole-code};
+use model::row::Row;
 
 // Every byte string is either accepted with one letter and list of rows, or refused with one fault; a byte after an accepted sheet is refused.
 pub fn one_verdict<S, R>() -> u8
@@ -23,6 +24,13 @@ pub fn one_verdict<S, R>() -> u8
 pub fn good_is_written() -> u8
     ensures segmented { λ _. ⌜ Good-is-written segmented-grammar SegmentedTask segmented-kind ⌝ }
     ensures whole { λ _. ⌜ Good-is-written whole-grammar WholeTask whole-kind ⌝ }
+{
+    0
+}
+
+// The table of an accepted sheet has at most 32 rows, all lawful, and no id twice.
+pub fn good_is_lawful<S, R: Row>() -> u8
+    ensures { λ _. ⌜ Good-is-lawful S R (R·Row .meaning) ⌝ }
 {
     0
 }
