@@ -9,4 +9,5 @@ pub mod Written
 pub mod Filled
 pub mod SegmentedSpelling
 pub mod Writing
+pub mod Reached
 pub mod Cuts
