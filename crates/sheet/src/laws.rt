@@ -2,6 +2,7 @@
 ghost use Rattle.model.specs.SegmentedRows.{segmented-kind};
 ghost use Rattle.model.specs.WholeRows.{whole-kind};
 ghost use Rattle.sheet.specs.Cuts.{Cut-is-cut};
+ghost use Rattle.sheet.specs.NinthSegments.{Too-many-is-ninth};
 ghost use Rattle.sheet.specs.SegmentedSheets.{segmented-grammar};
 ghost use Rattle.sheet.specs.SegmentedTasks.{SegmentedTask};
 ghost use Rattle.sheet.specs.Sheets.{Good-is-lawful, Nothing-follows, One-verdict};
@@ -47,6 +48,14 @@ pub fn table_is_written() -> u8
 pub fn cut_is_cut() -> u8
     ensures segmented { λ _. ⌜ Cut-is-cut segmented-grammar segmented-kind ⌝ }
     ensures whole { λ _. ⌜ Cut-is-cut whole-grammar whole-kind ⌝ }
+{
+    0
+}
+
+// A sheet is refused for too many segments at a place exactly if whole commands stand up to that place, the last of them the eighth segment
+// of a row, and there stands a whole suspension.
+pub fn too_many_is_ninth() -> u8
+    ensures { λ _. ⌜ Too-many-is-ninth ⌝ }
 {
     0
 }
