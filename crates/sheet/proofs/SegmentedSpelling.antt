@@ -32,7 +32,7 @@ module _ (j : List Segmented → Segmented → Option Refusal) where
   abbrev Accepted : SegmentedDraft → List Segmented → ℕ → List ℕ → List Segmented → Type 0
   Accepted d table place bytes all = Parses segmented-grammar j d table place bytes (accepted all)
 
-  -- between tasks, after a table, what the bytes are read as is the rest of the sheet
+  -- between tasks, whatever row stood before, the rest of the sheet is accepted after this table
   abbrev Goes-on : List Segmented → List Segmented → List ℕ → Type 0
   Goes-on table all rest = (one : Segmented) (place : ℕ) → Accepted (drafted BetweenTasks one) table place rest all
 
