@@ -2,6 +2,7 @@ pub mod Bags
 pub mod Outcomes
 pub mod Levels
 pub mod Shuffle
+pub mod Runs
 pub mod Optimal
 pub mod Pools
 pub mod MaskedPools

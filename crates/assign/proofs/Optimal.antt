@@ -15,6 +15,7 @@ use Rattle.assign.specs.Laws.{all-places, Arranges, Laws}
 use Rattle.assign.proofs.Bags.{part-~, part-map, part-both, part-empty}
 use Rattle.assign.proofs.Outcomes.{outcome, unique, not-both}
 use Rattle.assign.proofs.Levels.{left-of, stays-left, unfit, found}
+use Rattle.assign.proofs.Runs.{bounds-hold}
 use Rattle.assign.proofs.Shuffle.{part-lift, stuck-rows, map-none}
 
 module _ {R : Type 0} (kind : Kind R) (test : Answers R) (rules : TestRules kind test) where
@@ -55,6 +56,7 @@ module _ {R : Type 0} (kind : Kind R) (test : Answers R) (rules : TestRules kind
   laws table = record {
     one-outcome = let r = an-outcome table in (r .0, r .1, λ other d. unique (test .answer) (row-of kind table) (r .1) d);
     accepted-fits = λ order bounds questions d. found test rules (row-of kind table) d;
+    accepted-holds = λ order bounds questions d. bounds-hold kind test rules table order bounds (found test rules (row-of kind table) d .1);
     stuck-exactly = (λ h. unfit-orders table (h .0) (h .1) (h .2), stuck-by-orders table);
     left-stuck = λ left questions d. found test rules (row-of kind table) d;
     left-largest = λ left questions d set p s. stays-left test rules (row-of kind table) d set s p;

@@ -42,6 +42,7 @@ module _ {R : Type 0} (kind : Kind R) (test : Answers R) (rows : List R) (rules 
         each-once = subst (λ (l : List ℕ). l ~ all-places rows) (sym o) (f .0);
         fits = subst (λ (l : List ℕ). Fits (test .answer) (row-of kind rows) l (take (length rows) bounds′)) (sym o) (subst (λ (l : List ℕ). Fits (test .answer) (row-of kind rows) (a .chosen) l) (sym b) (f .1));
         in-time = λ i h. timely (a .chosen) (a .answered) (f .1) i (omega arith) (sym (getD-take (length rows) order′ i 0 h) ∙ ap (λ (l : List ℕ). getD l i 0) o) (sym (getD-take (length rows) bounds′ i 0 h) ∙ ap (λ (l : List ℕ). getD l i 0) b);
+        holds = rw (o, b) (laws kind test rules rows .accepted-holds (a .chosen) (a .answered) questions (a .found));
       }
     where
       timely : {p b : ℕ} (chosen answered : List ℕ) → Fits (test .answer) (row-of kind rows) chosen answered → (i : ℕ) → i < length chosen → p ≡ getD chosen i 0 → b ≡ getD answered i 0 → (1 ≤ b) × (b ≤ kind .deadline (row-of kind rows p))

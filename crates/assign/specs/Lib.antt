@@ -1,3 +1,4 @@
 pub mod Assignment
 pub mod Laws
 pub mod Search
+pub mod Counts

@@ -13,7 +13,7 @@ use Rattle.feasibility.specs.Tests.{Answers}
 use Rattle.feasibility.specs.Masks.{row-of, mask-of, in-mask}
 use Rattle.assign.specs.Assignment.{Outcome, accepted, stuck, Filled, Fits}
 use Rattle.assign.specs.Assignment as assignment
-use Rattle.assign.specs.Laws.{all-places, Arranges, NoneFits}
+use Rattle.assign.specs.Laws.{all-places, Arranges, NoneFits, Bounds-hold}
 use Rattle.model.specs.Bags.{_~_, Part}
 use Rattle.assign.specs.declared.order.Left.{Left}
 use Rattle.assign.specs.declared.order.NoOrder.{NoOrder}
@@ -61,11 +61,13 @@ Told (stuck left questions) r = r ≡ Err (Stuck (record { mask = mask-of left; 
 abbrev pub Tells : {R : Type 0} → Kind R → Answers R → List R → List ℕ → List ℕ → Result ℕ NoOrder → Type 0
 Tells kind test rows order bounds r = has-room rows order bounds ≡ true → (o : Outcome) → Arranges kind test rows o → Told o r
 
--- The order that is written has each place once. Each level's bound is the answer under the levels above it, and is 1 to the deadline.
+-- The order that is written has each place once. Each level's bound is the answer under the levels above it, is 1 to the deadline, and holds in
+-- every lawful run of that order.
 pub record Fitted {R : Type 0} (kind : Kind R) (test : Answers R) (rows : List R) (order bounds : List ℕ) : Type 0 where
   pub each-once : take (length rows) order ~ all-places rows
   pub fits : Fits (test .answer) (row-of kind rows) (take (length rows) order) (take (length rows) bounds)
   pub in-time : (i : ℕ) → i < length rows → (1 ≤ getD bounds i 0) × (getD bounds i 0 ≤ kind .deadline (row-of kind rows (getD order i 0)))
+  pub holds : Bounds-hold kind rows (take (length rows) order) (take (length rows) bounds)
 
 -- The places of the mask are stuck, and contain every stuck set.
 pub record Largest {R : Type 0} (kind : Kind R) (test : Answers R) (rows : List R) (mask : ℕ) : Type 0 where

@@ -1,4 +1,5 @@
 // Why no order is given.
+pub mod count;
 
 // The places that are left, as a 32-bit number with bit p set for each place p, and the number of questions put.
 #[derive(Clone, Copy)]

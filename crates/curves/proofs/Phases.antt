@@ -1,6 +1,6 @@
 -- The work of a phase by the number of the segment, and by recursion over the segments. Assumes nothing.
 use mathlib.Core.Path.{_≡_, refl, ap, ap₂, sym, _∙_}
-use mathlib.Core.Bool.{true, false, cond}
+use mathlib.Core.Bool.{Bool, true, false, cond}
 use Prim.Native.Nat.{ℕ, zero, suc, _+_, _-_, _*_, _%_, _≤_, _<_, min}
 use native.Mathlib.Nat.{mul-le-mul-right}
 use native.Mathlib.Omega.{arith}
@@ -9,7 +9,7 @@ use lib.Arith.{digits-mod}
 use Rattle.std.proofs.shelf.Tests.{eq-eqb, ne-eqb, le-leb, lt-leb, cond-true, cond-false, cond-both}
 use Rattle.model.specs.Segments.{Segments, last, more, count, all-ticks, least-gaps}
 use Rattle.curves.specs.SegmentCurve.{ticks-at, gap-at, gap-after, work-from, phase-work}
-use Rattle.curves.proofs.Sequences.{worked, jobs-from, Gentle, worked-same, top}
+use Rattle.curves.proofs.Sequences.{worked, jobs-from, Lipschitz, worked-same, top}
 
 pub some-segments : (s : Segments) → 1 ≤ count s
 some-segments (last c) = omega arith
@@ -56,6 +56,17 @@ top-below s (last c) k t work b all = all k (last c) t
 top-below s (more c lo hi tail) k t work b all =
     omega (arith, all k (more c lo hi tail) t, top-below s tail (suc k) (tail-next s k c lo hi tail t) work b all)
 
+-- ---- the test of the gap rule: whether the last segment of a job has the short gap after it, by its number
+
+abbrev pub early : ℕ → ℕ → Bool
+early M j = leb j M
+
+early-first : (M : ℕ) → 1 ≤ M → early M (0 * M + (M - 1)) ≡ true
+early-first M some = le-leb (0 * M + (M - 1)) M (omega arith)
+
+late-from-2 : (M q : ℕ) → 1 ≤ M → 2 ≤ q → early M (q * M + (M - 1)) ≡ false
+late-from-2 M q some two = lt-leb (q * M + (M - 1)) M (omega (arith, mul-le-mul-right {m = 2} {n = q} M two))
+
 -- ---- by number
 
 module _ (s : Segments) (T D : ℕ) where
@@ -69,10 +80,10 @@ module _ (s : Segments) (T D : ℕ) where
       let past : 0 - (ticks-at s (j % M) + gap-after s T D j) ≡ 0 = omega arith in
       omega (arith, ap (work-from s T D n (suc j)) past, none-left n (suc j))
 
-  pub gentle-work : (n j : ℕ) → Gentle (work-from s T D n j)
-  gentle-work zero j = record { by = λ u v d h. omega arith }
-  gentle-work (suc n) j =
-      let rest = gentle-work n (suc j) in
+  pub lipschitz-work : (n j : ℕ) → Lipschitz (work-from s T D n j)
+  lipschitz-work zero j = record { by = λ u v d h. omega arith }
+  lipschitz-work (suc n) j =
+      let rest = lipschitz-work n (suc j) in
       record { by = λ u v d h. omega (arith, rest .by (u - (ticks-at s (j % M) + gap-after s T D j)) (v - (ticks-at s (j % M) + gap-after s T D j)) (d - (min (ticks-at s (j % M)) u - min (ticks-at s (j % M)) v)) (omega arith)) }
 
   -- of more segments, more work
@@ -150,23 +161,25 @@ module _ (s : Segments) (T D : ℕ) where
   at-end : (q : ℕ) → suc ((q * M + (M - 1)) % M) ≡ M
   at-end q = let here : (q * M + (M - 1)) % M ≡ M - 1 = digits-mod q (omega (arith, some-segments s)) in omega (arith, some-segments s)
 
-  job-gap-is : (q : ℕ) → job-gap q ≡ cond (leb (q * M + (M - 1)) M) (T - D) (T - (all-ticks s + least-gaps s))
-  unfolding job-gap
+  whole-gap : ℕ
+  whole-gap = T - (all-ticks s + least-gaps s)
+
+  job-gap-is : (q : ℕ) → job-gap q ≡ cond (early M (q * M + (M - 1))) (T - D) whole-gap
+  unfolding job-gap whole-gap
   job-gap-is q = cond-true (eqb (suc ((q * M + (M - 1)) % M)) M) _ _ (eq-eqb (suc ((q * M + (M - 1)) % M)) M (at-end q))
 
   -- no gap after a job is longer than what runs allow
   pub first-gap : job-gap 0 ≤ T - D
-  first-gap = omega (arith, job-gap-is 0, cond-true (leb (0 * M + (M - 1)) M) (T - D) (T - (all-ticks s + least-gaps s)) (le-leb (0 * M + (M - 1)) M (omega arith)))
+  first-gap = omega (arith, job-gap-is 0, cond-true (early M (0 * M + (M - 1))) (T - D) whole-gap (early-first M (some-segments s)))
 
   pub short-gaps : all-ticks s + least-gaps s ≤ D → (q : ℕ) → job-gap q ≤ T - (all-ticks s + least-gaps s)
+  unfolding whole-gap
   short-gaps fits q =
-      let b : cond (leb (q * M + (M - 1)) M) (T - D) (T - (all-ticks s + least-gaps s)) ≤ T - (all-ticks s + least-gaps s) =
-      cond-both (leb (q * M + (M - 1)) M) (T - D) (T - (all-ticks s + least-gaps s)) (λ g. g ≤ T - (all-ticks s + least-gaps s)) (λ e. omega arith) (λ e. omega arith) in
+      let b : cond (early M (q * M + (M - 1))) (T - D) whole-gap ≤ whole-gap =
+      cond-both (early M (q * M + (M - 1))) (T - D) whole-gap (λ g. g ≤ whole-gap) (λ e. omega arith) (λ e. omega arith) in
       omega (arith, job-gap-is q)
 
   -- from job 2 on a job comes every T ticks
   pub later-gaps : (q : ℕ) → 2 ≤ q → job-gap q ≡ T - (all-ticks s + least-gaps s)
-  later-gaps q two =
-      job-gap-is q
-      ∙ cond-false (leb (q * M + (M - 1)) M) (T - D) (T - (all-ticks s + least-gaps s))
-      (lt-leb (q * M + (M - 1)) M (omega (arith, some-segments s, mul-le-mul-right {m = 2} {n = q} M two)))
+  unfolding whole-gap
+  later-gaps q two = job-gap-is q ∙ cond-false (early M (q * M + (M - 1))) (T - D) whole-gap (late-from-2 M q (some-segments s) two)

@@ -1,13 +1,13 @@
 -- The segments of a segmented row by number, as the code reads them. Assumes nothing.
 use mathlib.Core.Path.{_≡_, refl, ap, ap₂, sym, subst, _∙_}
-use mathlib.Core.Bool.{true, cond, _&&_}
+use mathlib.Core.Bool.{true, false, cond, _&&_}
 use mathlib.Core.Logic.{_⊎_, inl, inr}
 use Prim.Native.Nat.{ℕ, zero, suc, _+_, _-_, _*_, _/_, _%_, _≤_, _<_, min}
 use native.Mathlib.Nat.{mod-lt}
 use native.Mathlib.Omega.{arith}
 use lib.Dec.{leb, eqb}
 use lib.ListN.{getD}
-use Rattle.std.proofs.shelf.Tests.{cases-lt, and-parts, leb-true, le-leb, lt-leb, eq-eqb, ne-eqb, cond-true, cond-false}
+use Rattle.std.proofs.shelf.Tests.{cases-lt, and-parts, leb-true, eq-eqb, ne-eqb, cond-true, cond-false}
 use Rattle.model.specs.Rows.{Bounds}
 use Rattle.model.specs.Segments.{Segments, count, all-ticks, least-gaps, most-gaps, segmented, segmented-lawful, lawful-ranged}
 use Rattle.model.specs.SegmentedRows.{segment-cost, segments-from, segments-of, well-formed, segmented-shape}
@@ -15,6 +15,7 @@ use Rattle.model.specs.declared.segmented.Segmented.{Segmented}
 use Rattle.model.proofs.Totals.{sum-below}
 use Rattle.curves.specs.SegmentCurve.{ticks-at, gap-at, gap-after, work-from, phase-work}
 use Rattle.curves.proofs.Periods.{phase-parts, periods-fit}
+use Rattle.curves.proofs.Phases.{early}
 use Rattle.curves.proofs.SegmentRules.{gaps-ordered}
 
 abbrev pub Lawful-row : Segmented → Type 0
@@ -98,23 +99,23 @@ module _ (x : Segmented) (l : Lawful-row x) where
   row-gap j = gap-after (segments-of x) (x .period) (x .deadline) j
 
   gap-by : (j : ℕ)
-      → row-gap j ≡ cond (eqb (suc (j % x .count)) (x .count)) (cond (leb j (x .count)) (x .period - x .deadline) (x .period - (all-ticks s + least-gaps s))) (gap-at s (j % x .count))
+      → row-gap j ≡ cond (eqb (suc (j % x .count)) (x .count)) (cond (early (x .count) j) (x .period - x .deadline) (x .period - (all-ticks s + least-gaps s))) (gap-at s (j % x .count))
   gap-by j =
-      ap (λ m. cond (eqb (suc (j % m)) m) (cond (leb j m) (x .period - x .deadline) (x .period - (all-ticks s + least-gaps s))) (gap-at s (j % m))) (count-is x (limits x l .some))
+      ap (λ m. cond (eqb (suc (j % m)) m) (cond (early m j) (x .period - x .deadline) (x .period - (all-ticks s + least-gaps s))) (gap-at s (j % m))) (count-is x (limits x l .some))
 
   pub gap-inside : (j : ℕ) → (suc (j % x .count) ≡ x .count → ⊥) → row-gap j ≡ getD (x .least) (j % x .count) 0
   gap-inside j no-end =
       gap-by j ∙ cond-false (eqb (suc (j % x .count)) (x .count)) _ _ (ne-eqb (suc (j % x .count)) (x .count) no-end)
       ∙ gap-is x (j % x .count) (omega (arith, no-end, mod-lt j {m = x .count} (limits x l .some)))
 
-  gap-end : (j : ℕ) → suc (j % x .count) ≡ x .count → row-gap j ≡ cond (leb j (x .count)) (x .period - x .deadline) (x .period - (all-ticks s + least-gaps s))
+  gap-end : (j : ℕ) → suc (j % x .count) ≡ x .count → row-gap j ≡ cond (early (x .count) j) (x .period - x .deadline) (x .period - (all-ticks s + least-gaps s))
   gap-end j e = gap-by j ∙ cond-true (eqb (suc (j % x .count)) (x .count)) _ _ (eq-eqb (suc (j % x .count)) (x .count) e)
 
-  pub gap-near : (j : ℕ) → suc (j % x .count) ≡ x .count → j ≤ x .count → row-gap j ≡ x .period - x .deadline
-  gap-near j e near = gap-end j e ∙ cond-true (leb j (x .count)) _ _ (le-leb j (x .count) near)
+  pub gap-early : (j : ℕ) → suc (j % x .count) ≡ x .count → early (x .count) j ≡ true → row-gap j ≡ x .period - x .deadline
+  gap-early j e is = gap-end j e ∙ cond-true (early (x .count) j) _ _ is
 
-  pub gap-far : (j : ℕ) → suc (j % x .count) ≡ x .count → x .count < j → row-gap j ≡ x .period - (all-ticks s + least-gaps s)
-  gap-far j e far = gap-end j e ∙ cond-false (leb j (x .count)) _ _ (lt-leb j (x .count) far)
+  pub gap-late : (j : ℕ) → suc (j % x .count) ≡ x .count → early (x .count) j ≡ false → row-gap j ≡ x .period - (all-ticks s + least-gaps s)
+  gap-late j e is = gap-end j e ∙ cond-false (early (x .count) j) _ _ is
 
   abbrev pub row-work-from : ℕ → ℕ → ℕ → ℕ
   row-work-from n j u = work-from (segments-of x) (x .period) (x .deadline) n j u

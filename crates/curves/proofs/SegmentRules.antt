@@ -17,9 +17,9 @@ use Rattle.model.specs.Segments.{Segments, last, more, count, all-ticks, least-
 use Rattle.model.proofs.Ticks.{counts, clipped, runs-waiting}
 use Rattle.curves.specs.Curves.{CurveRules, CurveEdges}
 use Rattle.curves.specs.SegmentCurve.{work-from, phase-work, Peak, greatest, row-work, segment-peak, segment-workload, PeakOfPhases}
-use Rattle.curves.proofs.Sequences.{worked, jobs-from, Gentle, gentle-worked, gentle-jobs, top}
+use Rattle.curves.proofs.Sequences.{worked, jobs-from, Lipschitz, lipschitz-worked, lipschitz-jobs, top}
 use Rattle.curves.proofs.SegmentWindows.{Fits, kept-fits, segment-window}
-use Rattle.curves.proofs.Phases.{some-segments, Tail, tail-self, top-below, none-left, gentle-work, work-more, job-gap, phase-is, enough-same, first-gap, short-gaps}
+use Rattle.curves.proofs.Phases.{some-segments, Tail, tail-self, top-below, none-left, lipschitz-work, work-more, job-gap, phase-is, enough-same, first-gap, short-gaps}
 
 -- ---- the greatest of the phases
 
@@ -105,12 +105,12 @@ work-grows s T D t u h l =
     omega (
       arith,
       work-more s T D (suc t * count s) (suc u * count s) h t (mul-le-mul-right {m = suc t} {n = suc u} (count s) (omega arith)),
-      gentle-work s T D (suc u * count s) h .by t u 0 (omega arith),
+      lipschitz-work s T D (suc u * count s) h .by t u 0 (omega arith),
     )
 
 -- no more ticks than the window has
 work-small : (s : Segments) (T D t h : ℕ) → phase-work s T D t h ≤ t
-work-small s T D t h = omega (arith, gentle-work s T D (suc t * count s) h .by t 0 t (omega arith), none-left s T D (suc t * count s) h)
+work-small s T D t h = omega (arith, lipschitz-work s T D (suc t * count s) h .by t 0 t (omega arith), none-left s T D (suc t * count s) h)
 
 -- ---- the curve
 
@@ -197,8 +197,8 @@ module _ {R : Type 0} (shape : Shape R) where
       K : ℕ → ℕ
       K = jobs-from s (job-gap s T D) 1 t
 
-      gentle : Gentle K
-      gentle = gentle-jobs s (job-gap s T D) 1 t
+      lipschitz : Lipschitz K
+      lipschitz = lipschitz-jobs s (job-gap s T D) 1 t
 
       -- each phase in a part of the window is within the greatest
       phase : (e : ℕ) → e ≤ a + t → (k : ℕ) (tail : Segments) → Tail s k tail → worked tail (job-gap s T D 0) K (e - a) ≤ best x t .0
@@ -206,7 +206,7 @@ module _ {R : Type 0} (shape : Shape R) where
           let some = some-segments tail in
           omega (
             arith,
-            gentle-worked tail (job-gap s T D 0) K gentle .by (e - a) t 0 (omega arith),
+            lipschitz-worked tail (job-gap s T D 0) K lipschitz .by (e - a) t 0 (omega arith),
             phase-is s T D (b .some-cost) t (suc t * count s) k tail is (omega arith),
             greatest-peak (row-work shape x t) (count s - 1) .most k (omega (arith, is .ends)),
           )

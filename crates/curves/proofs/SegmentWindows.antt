@@ -13,7 +13,7 @@ use Rattle.model.specs.Runs.{Job, Done, Ends, Unmet, Waits, start, JobsWait, Sp
 use Rattle.model.specs.Segments.{Segments, last, more, all-ticks, least-gaps, keeps-ranges}
 use Rattle.model.proofs.Marks.{Counts, rising, slowly, still, reach, ends-after, ends-once, ends-by}
 use Rattle.model.proofs.Work.{Active, active-after, active-rest, first-active, rest-waits, unstarted, Finished, finished-rest}
-use Rattle.curves.proofs.Sequences.{worked, jobs-from, Gentle, gentle-constant, gentle-worked, gentle-jobs, worked-grows, worked-apart, top, top-here}
+use Rattle.curves.proofs.Sequences.{worked, jobs-from, Lipschitz, lipschitz-constant, lipschitz-worked, lipschitz-jobs, worked-grows, worked-apart, top, top-here}
 
 -- ---- a pattern of such segments
 
@@ -45,18 +45,18 @@ module _ (f : ℕ → ℕ) (c : Counts f) where
   abbrev pub Then : ℕ → (ℕ → ℕ) → ℕ → Pattern → ℕ → Type 0
   Then g K s p e = (m : ℕ) → Ends f s p m → m ≤ e → f e ≤ f m + K (e - (m + g))
 
-  pub in-window : (s : Segments) (p : Pattern) → Fits s p → (g : ℕ) (K : ℕ → ℕ) → Gentle K → (b e : ℕ) → b ≤ e
+  pub in-window : (s : Segments) (p : Pattern) → Fits s p → (g : ℕ) (K : ℕ → ℕ) → Lipschitz K → (b e : ℕ) → b ≤ e
       → Only b p e → Then g K b p e → f e ≤ f b + worked s g K (e - b)
-  in-window (last q) (final k) fit g K gentle b e l only after =
+  in-window (last q) (final k) fit g K lipschitz b e l only after =
       elim (cases-lt (f e) (f b + k)) [
         | inl short ↦ omega (arith, slowly f c b e l)
         | inr enough ↦
             let (m, d, before) = reach f c b k e l enough in
-            omega (arith, d .enough, d .after, slowly f c b m (d .after), after m d before, gentle .by (e - (m + g)) ((e - b) - (q + g)) (min q (e - b) - k) (omega (arith, d .enough, d .after, slowly f c b m (d .after))))
+            omega (arith, d .enough, d .after, slowly f c b m (d .after), after m d before, lipschitz .by (e - (m + g)) ((e - b) - (q + g)) (min q (e - b) - k) (omega (arith, d .enough, d .after, slowly f c b m (d .after))))
       ]
-  in-window (last q) (step k w p) fit g K gentle b e l only after = absurd fit
-  in-window (more q lo hi s) (final k) fit g K gentle b e l only after = absurd fit
-  in-window (more q lo hi s) (step k w p) fit g K gentle b e l only after =
+  in-window (last q) (step k w p) fit g K lipschitz b e l only after = absurd fit
+  in-window (more q lo hi s) (final k) fit g K lipschitz b e l only after = absurd fit
+  in-window (more q lo hi s) (step k w p) fit g K lipschitz b e l only after =
       elim (cases-lt (f e) (f b + k)) [
         | inl short ↦ omega (arith, slowly f c b e l)
         | inr enough ↦
@@ -70,9 +70,9 @@ module _ (f : ℕ → ℕ) (c : Counts f) where
               | inr late ↦
                   let quiet : f (m + w) ≡ f m = still f c m (m + w) (omega arith) (λ t x y z. omega (arith, active-after f c p (m + w) t (later t x (omega arith) z))) in
                   let go-on : f e ≤ f (m + w) + worked s g K (e - (m + w)) =
-                  in-window s p (fit .3) g K gentle (m + w) e late (λ t x y z. later t (omega arith) y z) (λ n ends x. after n (m, d, ends) x) in
+                  in-window s p (fit .3) g K lipschitz (m + w) e late (λ t x y z. later t (omega arith) y z) (λ n ends x. after n (m, d, ends) x) in
                   let given : worked s g K (e - (m + w)) ≤ worked s g K ((e - b) - (q + lo)) + (min q (e - b) - k) =
-                  gentle-worked s g K gentle .by _ _ _ (omega (arith, d .after)) in
+                  lipschitz-worked s g K lipschitz .by _ _ _ (omega (arith, d .after)) in
                   omega (arith, d .enough, d .after)
             ]
       ]
@@ -99,25 +99,25 @@ module _ (f : ℕ → ℕ) (c : Counts f) where
   unmet-from : (b k a t : ℕ) → a ≤ t → f a < f b + k → Unmet f b k t → Unmet f a (left b k a) t
   unmet-from b k a t l open-yet u = record { after = l; lacks = omega (arith, u .lacks) }
 
-  pub carry : (s : Segments) (p : Pattern) → Fits s p → (g : ℕ) (K : ℕ → ℕ) → Gentle K → (b a e : ℕ) → b ≤ a → a ≤ e
+  pub carry : (s : Segments) (p : Pattern) → Fits s p → (g : ℕ) (K : ℕ → ℕ) → Lipschitz K → (b a e : ℕ) → b ≤ a → a ≤ e
       → Only b p e → ((m : ℕ) → Ends f b p m → a < m) → Then g K b p e → f e ≤ f a + top s (λ tail. worked tail g K (e - a))
-  carry (last q) (final k) fit g K gentle b a e l h only open-yet after =
+  carry (last q) (final k) fit g K lipschitz b a e l h only open-yet after =
       elim (cases-lt (f a) (f b + k)) [
         | inr enough ↦ let (m, d, before) = reach f c b k a l enough in absurd (omega (arith, open-yet m d))
         | inl short ↦
-            in-window (last q) (final (left b k a)) (omega (arith, rising f c b a l)) g K gentle a e h
+            in-window (last q) (final (left b k a)) (omega (arith, rising f c b a l)) g K lipschitz a e h
             (λ t x y z. elim (only t (omega arith) y z) [
               | inl u ↦ inl (unmet-from b k a t x short u)
               | inr (m, d, v) ↦ inr (m, done-from b k a m l short d, v)
             ])
             (λ m d v. after m (done-back b k a m l short d) v)
       ]
-  carry (last q) (step k w p) fit g K gentle b a e l h only open-yet after = absurd fit
-  carry (more q lo hi s) (final k) fit g K gentle b a e l h only open-yet after = absurd fit
-  carry (more q lo hi s) (step k w p) fit g K gentle b a e l h only open-yet after =
+  carry (last q) (step k w p) fit g K lipschitz b a e l h only open-yet after = absurd fit
+  carry (more q lo hi s) (final k) fit g K lipschitz b a e l h only open-yet after = absurd fit
+  carry (more q lo hi s) (step k w p) fit g K lipschitz b a e l h only open-yet after =
       elim (cases-lt (f a) (f b + k)) [
         | inl short ↦
-            let here = in-window (more q lo hi s) (step (left b k a) w p) (omega (arith, rising f c b a l, fit .0), fit .1, fit .2, fit .3) g K gentle a e h
+            let here = in-window (more q lo hi s) (step (left b k a) w p) (omega (arith, rising f c b a l, fit .0), fit .1, fit .2, fit .3) g K lipschitz a e h
             (λ t x y z. elim (only t (omega arith) y z) [
               | inl (inl u) ↦ inl (inl (unmet-from b k a t x short u))
               | inl (inr (n, d, v)) ↦ inl (inr (n, done-from b k a n l short d, v))
@@ -131,15 +131,15 @@ module _ (f : ℕ → ℕ) (c : Counts f) where
             λ t x y z. active-rest f c k w p b m t d x (only t (omega (arith, d .after)) y z) in
             elim (cases-lt a (m + w)) [
               | inr resumed ↦
-                  let inner = carry s p (fit .3) g K gentle (m + w) a e resumed h (λ t x y z. later t (omega arith) y z)
+                  let inner = carry s p (fit .3) g K lipschitz (m + w) a e resumed h (λ t x y z. later t (omega arith) y z)
                   (λ n ends. open-yet n (m, d, ends)) (λ n ends v. after n (m, d, ends) v) in
                   omega arith
               | inl suspended ↦ elim (cases-lt e (m + w)) [
                 | inl early ↦ omega (arith, still f c a e h (λ t x y z. omega (arith, active-after f c p (m + w) t (later t (omega arith) y z))))
                 | inr late ↦
                     let quiet : f (m + w) ≡ f a = still f c a (m + w) (omega arith) (λ t x y z. omega (arith, active-after f c p (m + w) t (later t (omega arith) (omega arith) z))) in
-                    let inner = in-window s p (fit .3) g K gentle (m + w) e late (λ t x y z. later t (omega arith) y z) (λ n ends v. after n (m, d, ends) v) in
-                    let wider = gentle-worked s g K gentle .by (e - (m + w)) (e - a) 0 (omega arith) in
+                    let inner = in-window s p (fit .3) g K lipschitz (m + w) e late (λ t x y z. later t (omega arith) y z) (λ n ends v. after n (m, d, ends) v) in
+                    let wider = lipschitz-worked s g K lipschitz .by (e - (m + w)) (e - a) 0 (omega arith) in
                     omega (arith, top-here s (λ tail. worked tail g K (e - a)))
               ]
             ]
@@ -176,12 +176,12 @@ module _ (f : ℕ → ℕ) (c : Counts f) where
               λ m ends before.
               let from : start free j ≤ m = ends-after f c (j .pattern) (start free j) m ends in
               let others = later-jobs js m (j .release + T) (sp .1) (fit .1) e before (λ t x y g. rest-waits f c j js free m t ends x (only t (omega arith) y g)) (suc q) n (omega (arith, sp .0)) in
-              let earlier : K (e - (j .release + T)) ≤ rest + 0 = gentle-jobs s gap (suc q) n .by _ _ 0 (omega (arith, sp .0)) in
+              let earlier : K (e - (j .release + T)) ≤ rest + 0 = lipschitz-jobs s gap (suc q) n .by _ _ 0 (omega (arith, sp .0)) in
               omega arith in
-              let first = in-window s (j .pattern) (fit .0) whole (λ u. rest) (gentle-constant rest) (start free j) e late
+              let first = in-window s (j .pattern) (fit .0) whole (λ u. rest) (lipschitz-constant rest) (start free j) e late
               (λ t x y g. first-active f c j js free t (only t (omega arith) y g)) after in
-              let wider = gentle-worked s whole (λ u. rest) (gentle-constant rest) .by (e - start free j) (e - x) 0 (omega (arith, sp .0)) in
-              let shorter = worked-grows s whole (gap q) K K (gentle-jobs s gap (suc q) n) (short-gaps q) (λ u. omega arith) (e - x) in
+              let wider = lipschitz-worked s whole (λ u. rest) (lipschitz-constant rest) .by (e - start free j) (e - x) 0 (omega (arith, sp .0)) in
+              let shorter = worked-grows s whole (gap q) K K (lipschitz-jobs s gap (suc q) n) (short-gaps q) (λ u. omega arith) (e - x) in
               omega (arith, worked-apart s whole rest K (e - x) refl)
         ]
 
@@ -198,7 +198,7 @@ module _ (f : ℕ → ℕ) (c : Counts f) where
                 (λ t x g. rest-waits f c j js free m t ends x (only t (omega (arith, ends-after f c (j .pattern) (start free j) m ends)) g)) a e past ae eH n b
             | inr pending ↦
                 let K = jobs-from s gap 1 n in
-                let gentle : Gentle K = gentle-jobs s gap 1 n in
+                let lipschitz : Lipschitz K = lipschitz-jobs s gap 1 n in
                 let in-time : (m : ℕ) → Ends f (start free j) (j .pattern) m → m ≤ e → m ≤ j .release + D =
                 λ m ends before. elim (cases-lt H (j .release + D)) [
                   | inl over ↦ omega arith
@@ -209,19 +209,19 @@ module _ (f : ℕ → ℕ) (c : Counts f) where
                 let from : start free j ≤ m = ends-after f c (j .pattern) (start free j) m ends in
                 let soon : m ≤ j .release + D = in-time m ends before in
                 let others = later-jobs js m (j .release + T) (sp .1) (fit .1) e before (λ t x y g. rest-waits f c j js free m t ends x (only t (omega arith) g)) 1 n (omega (arith, pending m ends)) in
-                let earlier : K (e - (j .release + T)) ≤ K (e - (m + gap 0)) + 0 = gentle .by _ _ 0 (omega arith) in
+                let earlier : K (e - (j .release + T)) ≤ K (e - (m + gap 0)) + 0 = lipschitz .by _ _ 0 (omega arith) in
                 omega arith in
                 elim (cases-lt a (start free j)) [
                   | inr started ↦
-                      carry s (j .pattern) (fit .0) (gap 0) K gentle (start free j) a e started ae
+                      carry s (j .pattern) (fit .0) (gap 0) K lipschitz (start free j) a e started ae
                       (λ t x y g. first-active f c j js free t (only t (omega arith) g)) pending after
                   | inl waiting ↦ elim (cases-lt e (start free j)) [
                     | inl early ↦ omega (arith, rising f c free a fa, unstarted f c j js free e (omega arith) (omega arith) (λ t x y g. only t x g))
                     | inr late ↦
                         let quiet : f (start free j) ≡ f free = unstarted f c j js free (start free j) (omega arith) (omega arith) (λ t x y g. only t x g) in
-                        let first = in-window s (j .pattern) (fit .0) (gap 0) K gentle (start free j) e late
+                        let first = in-window s (j .pattern) (fit .0) (gap 0) K lipschitz (start free j) e late
                         (λ t x y g. first-active f c j js free t (only t (omega arith) g)) after in
-                        let wider = gentle-worked s (gap 0) K gentle .by (e - start free j) (e - a) 0 (omega arith) in
+                        let wider = lipschitz-worked s (gap 0) K lipschitz .by (e - start free j) (e - a) 0 (omega arith) in
                         omega (arith, rising f c free a fa, top-here s (λ tail. worked tail (gap 0) K (e - a)))
                   ]
                 ]

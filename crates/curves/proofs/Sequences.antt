@@ -15,25 +15,25 @@ abbrev pub jobs-from : Segments → (ℕ → ℕ) → ℕ → ℕ → ℕ → �
 jobs-from s gap q zero u = 0
 jobs-from s gap q (suc n) u = worked s (gap q) (jobs-from s gap (suc q) n) u
 
--- a share of the time left grows by no more than the time does
-pub record Gentle (K : ℕ → ℕ) : Type 0 where
+-- it never falls, and grows by no more than the time does
+pub record Lipschitz (K : ℕ → ℕ) : Type 0 where
   pub by : (u v d : ℕ) → u ≤ v + d → K u ≤ K v + d
 
-pub gentle-constant : (b : ℕ) → Gentle (λ u. b)
-gentle-constant b = record { by = λ u v d h. omega arith }
+pub lipschitz-constant : (b : ℕ) → Lipschitz (λ u. b)
+lipschitz-constant b = record { by = λ u v d h. omega arith }
 
-pub gentle-worked : (s : Segments) (g : ℕ) (K : ℕ → ℕ) → Gentle K → Gentle (worked s g K)
-gentle-worked (last c) g K k = record { by = λ u v d h. omega (arith, k .by (u - (c + g)) (v - (c + g)) (d - (min c u - min c v)) (omega arith)) }
-gentle-worked (more c lo hi s) g K k =
-    let rest = gentle-worked s g K k in
+pub lipschitz-worked : (s : Segments) (g : ℕ) (K : ℕ → ℕ) → Lipschitz K → Lipschitz (worked s g K)
+lipschitz-worked (last c) g K k = record { by = λ u v d h. omega (arith, k .by (u - (c + g)) (v - (c + g)) (d - (min c u - min c v)) (omega arith)) }
+lipschitz-worked (more c lo hi s) g K k =
+    let rest = lipschitz-worked s g K k in
     record { by = λ u v d h. omega (arith, rest .by (u - (c + lo)) (v - (c + lo)) (d - (min c u - min c v)) (omega arith)) }
 
-pub gentle-jobs : (s : Segments) (gap : ℕ → ℕ) (q n : ℕ) → Gentle (jobs-from s gap q n)
-gentle-jobs s gap q zero = gentle-constant 0
-gentle-jobs s gap q (suc n) = gentle-worked s (gap q) (jobs-from s gap (suc q) n) (gentle-jobs s gap (suc q) n)
+pub lipschitz-jobs : (s : Segments) (gap : ℕ → ℕ) (q n : ℕ) → Lipschitz (jobs-from s gap q n)
+lipschitz-jobs s gap q zero = lipschitz-constant 0
+lipschitz-jobs s gap q (suc n) = lipschitz-worked s (gap q) (jobs-from s gap (suc q) n) (lipschitz-jobs s gap (suc q) n)
 
 -- more of what follows, and a smaller gap before it, make more
-pub worked-grows : (s : Segments) (g g′ : ℕ) (K L : ℕ → ℕ) → Gentle L → g′ ≤ g → ((u : ℕ) → K u ≤ L u) → (u : ℕ) → worked s g K u ≤ worked s g′ L u
+pub worked-grows : (s : Segments) (g g′ : ℕ) (K L : ℕ → ℕ) → Lipschitz L → g′ ≤ g → ((u : ℕ) → K u ≤ L u) → (u : ℕ) → worked s g K u ≤ worked s g′ L u
 worked-grows (last c) g g′ K L k l h u = omega (arith, h (u - (c + g)), k .by (u - (c + g)) (u - (c + g′)) 0 (omega arith))
 worked-grows (more c lo hi s) g g′ K L k l h u = omega (arith, worked-grows s g g′ K L k l h (u - (c + lo)))
 

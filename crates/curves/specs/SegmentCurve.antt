@@ -19,20 +19,21 @@ gap-at (last c) j = 0
 gap-at (more c lo hi s) zero = lo
 gap-at (more c lo hi s) (suc j) = gap-at s j
 
--- Job after job without end, each in its M segments: segment j takes the ticks of segment j mod M, and is followed by a gap.
+-- A task's jobs one after another without end, each in its M segments. The segments are numbered on and on: segment j takes the ticks of
+-- segment j mod M, and is followed by a gap.
 module _ (s : Segments) (T D : ℕ) where
-  -- the gap after segment j: the least suspension, and after the last segment of a job what is left of the period. The first job ends at its
-  -- deadline, and the later ones as soon as they can
+  -- the gap after segment j. Inside a job it is the least suspension. After a job's last segment it is T − D if j ≤ M, as if the job had
+  -- ended at its deadline, and past that T − C − (sum of the least suspensions), so that a job comes every T ticks
   abbrev pub gap-after : ℕ → ℕ
   gap-after j =
       cond (eqb (suc (j % count s)) (count s)) (cond (leb j (count s)) (T - D) (T - (all-ticks s + least-gaps s))) (gap-at s (j % count s))
 
-  -- the segment ticks among the first u ticks, of n segments from segment j on
+  -- the segment ticks among the first u ticks of the n segments from segment j on
   abbrev pub work-from : ℕ → ℕ → ℕ → ℕ
   work-from zero j u = 0
   work-from (suc n) j u = min (ticks-at s (j % count s)) u + work-from n (suc j) (u - (ticks-at s (j % count s) + gap-after j))
 
-  -- Phase h begins with segment h. A whole job takes a tick or more, so the rest of one job and t whole ones reach past t ticks
+  -- The work of phase h in t ticks: it begins with segment h. A whole job takes a tick or more, so the segments of t + 1 jobs are enough
   abbrev pub phase-work : ℕ → ℕ → ℕ
   phase-work t h = work-from (suc t * count s) h t
 
@@ -49,7 +50,13 @@ greatest work zero = (work 0, 0)
 greatest work (suc m) = cond (ltb (greatest work m .0) (work (suc m))) (work (suc m), suc m) (greatest work m)
 
 module _ {R : Type 0} (shape : Shape R) where
-  -- the work of phase h of a row in t ticks
+  -- the same for the segments of a row
+  abbrev pub row-gap-after : R → ℕ → ℕ
+  row-gap-after x j = gap-after (shape .segments x) (shape .period x) (shape .deadline x) j
+
+  abbrev pub row-work-from : R → ℕ → ℕ → ℕ → ℕ
+  row-work-from x n j u = work-from (shape .segments x) (shape .period x) (shape .deadline x) n j u
+
   abbrev pub row-work : R → ℕ → ℕ → ℕ
   row-work x t h = phase-work (shape .segments x) (shape .period x) (shape .deadline x) t h
 
@@ -57,12 +64,12 @@ module _ {R : Type 0} (shape : Shape R) where
   abbrev pub segment-peak : R → ℕ → ℕ × ℕ
   segment-peak x t = cond (segmented-lawful shape x) (greatest (row-work x (min t limit)) (count (shape .segments x) - 1)) (0, 0)
 
-  -- the work, under the letter C
+  -- the work alone, under the letter C
   abbrev pub segment-workload : Workload R
   segment-workload = record { letter = 0x43; ticks = λ x t. segment-peak x t .0 }
 
-  -- for a lawful row that is the peak of its phases' work, however many segments are looked at, if only enough
+  -- what a pair is for a lawful row: the peak of its phases' work, however many segments are looked at, if only enough
   abbrev pub PeakOfPhases : R → ℕ → ℕ × ℕ → Type 0
   PeakOfPhases x t r =
       segmented-lawful shape x ≡ true → (n : ℕ) → suc (min t limit) * count (shape .segments x) ≤ n
-      → Peak (count (shape .segments x)) (λ h. work-from (shape .segments x) (shape .period x) (shape .deadline x) n h (min t limit)) r
+      → Peak (count (shape .segments x)) (λ h. row-work-from x n h (min t limit)) r

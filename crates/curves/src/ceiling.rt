@@ -4,17 +4,19 @@ use crate::curve::Curve;
 use model::limits::LIMIT;
 use model::row::Row;
 
+const CEILING_LETTER: u8 = b'J';
+
 // (t + D − C) / T rounded up, times C.
 #[derive(Clone, Copy)]
 pub struct Ceiling;
 
 pub impl<R: Row> Curve<R> for Ceiling as CeilingCurve {
-    const LETTER: u8 = b'J';
+    const LETTER: u8 = CEILING_LETTER;
 
     ghost workload = { ceiling-workload (R·Row .meaning) };
 
     fn sign() -> u8 {
-        b'J'
+        CEILING_LETTER
     }
 
     fn ticks(&self, row: &R, t: u32) -> u32 {

@@ -10,6 +10,8 @@ use model::segmented::rules::SegmentedRow;
 
 mod phases;
 
+const SEGMENT_LETTER: u8 = b'C';
+
 // The greatest work that one of the row's phases does in a window.
 #[derive(Clone, Copy)]
 pub struct SegmentCurve;
@@ -36,12 +38,12 @@ impl SegmentCurve {
 }
 
 pub impl Curve<Segmented> for SegmentCurve as SegmentedCurve {
-    const LETTER: u8 = b'C';
+    const LETTER: u8 = SEGMENT_LETTER;
 
     ghost workload = { segment-workload segmented-shape };
 
     fn sign() -> u8 {
-        b'C'
+        SEGMENT_LETTER
     }
 
     fn ticks(&self, row: &Segmented, t: u32) -> u32 {

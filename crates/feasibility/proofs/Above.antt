@@ -1,8 +1,8 @@
 -- The rows above a level: in another order, a part of them, and what their tasks run in a window. Assumes nothing.
 use mathlib.Core.Path.{_≡_, refl, sym, ap, ap₂, _∙_}
 use mathlib.Core.Bool.{Bool, true, false, cond, _&&_}
-use mathlib.Core.List.{List, [], _∷_, _++_, List·Permᴰ, List·Permᴰ·nil, List·Permᴰ·cons, List·Permᴰ·swap, List·Permᴰ·trans}
-use Prim.Native.Nat.{ℕ, zero, suc, _+_, _-_, _≤_, _<_}
+use mathlib.Core.List.{List, [], _∷_, _++_, List·Permᴰ·nil, List·Permᴰ·cons, List·Permᴰ·swap, List·Permᴰ·trans}
+use Prim.Native.Nat.{ℕ, _+_, _-_, _≤_, _<_}
 use native.Mathlib.Omega.{arith}
 use Rattle.std.specs.declared.option.Option.{Option}
 use Rattle.std.specs.declared.option.Option.the-variants.{Some, None}
@@ -11,7 +11,7 @@ use Rattle.std.proofs.shelf.Sums.{sumBy-cons, sumBy-append}
 use Rattle.std.proofs.shelf.Tests.{and-parts}
 use Rattle.model.specs.Bags.{_~_, Part}
 use Rattle.model.specs.Rows.{Kind, limit, all-lawful}
-use Rattle.model.specs.Runs.{Task, Run, ran, used, Level, above}
+use Rattle.model.specs.Runs.{Task, Run, ran, Level, above}
 use Rattle.model.specs.LawfulRuns.{Lawful, NoLate}
 use Rattle.curves.specs.Curves.{Workload, CurveRules}
 use Rattle.model.proofs.Ticks.{none-some, nth-inside, summed, higher}

@@ -1,7 +1,7 @@
 -- One bit of a number: taken out and put back. Assumes nothing.
-use mathlib.Core.Path.{_≡_, refl, sym, ap, _∙_}
-use mathlib.Core.Logic.{_⊎_, inl, inr, _≢_, ⊎-elim}
-use Prim.Native.Nat.{ℕ, zero, suc, _+_, _-_, _*_, _/_, _%_, _^_, _<_, _≤_}
+use mathlib.Core.Path.{_≡_, sym, ap, _∙_}
+use mathlib.Core.Logic.{_⊎_, _≢_, ⊎-elim}
+use Prim.Native.Nat.{ℕ, _+_, _-_, _*_, _/_, _%_, _^_, _<_, _≤_}
 use native.Mathlib.Omega.{arith}
 use native.Mathlib.Nat.{one-mul, div-eq-of-lt, mod-eq-of-lt, add-mul}
 use lib.Bits.{bitAnd, bitOr, bitXor, and-block, or-block, or-zero-r, and-zero-r, xor-zero-r, and-high, xor-add-and, or-shifted}

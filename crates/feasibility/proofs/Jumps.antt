@@ -1,6 +1,6 @@
 -- The search for the smallest window by jumps: where some ticks do not fit, nothing below what is asked for there fits. Assumes nothing.
-use mathlib.Core.Path.{_≡_, refl, sym, ap, _∙_}
-use mathlib.Core.Logic.{_⊎_, inl, inr}
+use mathlib.Core.Path.{_≡_, refl, ap}
+use mathlib.Core.Logic.{inl, inr}
 use mathlib.Core.Bool.{Bool, true, false}
 use mathlib.Core.List.{List, [], _∷_}
 use Prim.Native.Nat.{ℕ, _+_, _≤_, _<_}
@@ -8,11 +8,11 @@ use native.Mathlib.Omega.{arith}
 use Rattle.std.specs.declared.option.Option.{Option}
 use Rattle.std.specs.declared.option.Option.the-variants.{Some, None}
 use Rattle.std.proofs.shelf.Sums.{sumBy-cons}
-use Rattle.std.proofs.shelf.Tests.{cases-lt, both-ways, le-leb, lt-leb}
+use Rattle.std.proofs.shelf.Tests.{cases-lt, both-ways, lt-leb}
 use Rattle.model.specs.Rows.{Kind}
 use Rattle.curves.specs.Curves.{Workload, CurveRules}
-use Rattle.feasibility.specs.Windows.{least, fits, demand}
-use Rattle.feasibility.proofs.Least.{Found, Missed, Least, least-is}
+use Rattle.feasibility.specs.Windows.{least, fits, demand, Least}
+use Rattle.feasibility.proofs.Least.{least-is}
 
 -- nothing below t passes
 abbrev pub NoneBelow : (ℕ → Bool) → ℕ → Type 0

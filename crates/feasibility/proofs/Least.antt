@@ -1,27 +1,13 @@
 -- The smallest t ≤ d at which a test passes. Assumes nothing.
-use mathlib.Core.Path.{_≡_, refl, ap, sym, _∙_}
-use mathlib.Core.Logic.{_⊎_, inl, inr}
+use mathlib.Core.Path.{_≡_, refl, ap, _∙_}
+use mathlib.Core.Logic.{inl, inr}
 use mathlib.Core.Bool.{Bool, true, false, cond}
-use Prim.Native.Nat.{ℕ, zero, suc, _+_, _≤_, _<_}
+use Prim.Native.Nat.{ℕ, zero, suc, _≤_}
 use native.Mathlib.Omega.{arith}
 use Rattle.std.specs.declared.option.Option.{Option}
 use Rattle.std.specs.declared.option.Option.the-variants.{Some, None}
 use Rattle.std.proofs.shelf.Tests.{cases-lt, both-ways}
-use Rattle.feasibility.specs.Windows.{least, or-else}
-use Rattle.model.proofs.Ticks.{none-some}
-
--- what it finds: a number at which the test passes, and at none below
-pub record Found (p : ℕ → Bool) (d t : ℕ) : Type 0 where
-  pub within : t ≤ d
-  pub passes : p t ≡ true
-  pub smallest : (u : ℕ) → u < t → p u ≡ false
-
-abbrev pub Missed : (ℕ → Bool) → ℕ → Type 0
-Missed p d = (u : ℕ) → u ≤ d → p u ≡ false
-
-abbrev pub Least : (ℕ → Bool) → ℕ → Option ℕ → Type 0
-Least p d None = Missed p d
-Least p d (Some t) = Found p d t
+use Rattle.feasibility.specs.Windows.{least, or-else, Found, Least}
 
 pub least-is : (p : ℕ → Bool) (d : ℕ) → Least p d (least p d)
 least-is p zero = go (p zero) refl

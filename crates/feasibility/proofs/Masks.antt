@@ -1,20 +1,16 @@
 -- Masks as lists of places. Assumes nothing.
-use mathlib.Core.Path.{_≡_, refl, sym, ap, _∙_, subst}
-use mathlib.Core.Logic.{_⊎_, inl, inr, _≢_}
+use mathlib.Core.Path.{_≡_, refl, sym, ap, _∙_}
+use mathlib.Core.Logic.{_⊎_, inl, inr}
 use mathlib.Core.Bool.{Bool, true, false, cond, not, _&&_}
-use mathlib.Core.List.{List, [], _∷_, _++_, map, append-nil}
+use mathlib.Core.List.{List, [], _∷_, _++_, append-nil}
 use Prim.Native.Nat.{ℕ, zero, suc, _+_, _-_, _*_, _/_, _%_, _^_, _≤_, _<_, min}
 use native.Mathlib.Numerals.{add-one}
 use native.Mathlib.Nat.{mod-eq-of-lt, div-eq-of-lt}
 use lib.Bits.{bitAnd}
 use native.Mathlib.Omega.{arith}
 use lib.Dec.{eqb, ltb}
-use lib.ListN.{length, length-append}
-use Rattle.std.specs.shelf.Lists.{kept-by}
 use Rattle.std.proofs.shelf.Bits.{mod-pow-add, pow-pos, pow-below, and-mask, mod-below, shr-split}
-use Rattle.std.proofs.shelf.Tests.{cases-bool, cases-lt, eqb-true, eqb-false, ne-eqb, eq-eqb, lt-ltb, le-ltb, and-left, and-right}
-use Rattle.std.specs.declared.option.Option.{Option}
-use Rattle.std.specs.declared.option.Option.the-variants.{Some, None}
+use Rattle.std.proofs.shelf.Tests.{cases-bool, cases-lt, eqb-true, eqb-false, ne-eqb, eq-eqb, lt-ltb, le-ltb}
 use Rattle.feasibility.specs.Masks.{places, pool-of, bit-at, has, in-mask, mask-of, askable}
 use Rattle.std.proofs.shelf.Elements.{kept-by-append}
 
@@ -68,7 +64,6 @@ mask-in mask (suc n) =
 pub mask-whole : (mask n : ℕ) → mask < 2 ^ n → mask-of (in-mask mask n) ≡ mask
 mask-whole mask n h = mask-in mask n ∙ mod-eq-of-lt h
 
--- the question about a place of the pool, with the others of the pool above it
 -- a place past the bits of a mask
 pub has-past : (mask p w : ℕ) → mask < 2 ^ w → w ≤ p → has mask p ≡ false
 has-past mask p w small le =
@@ -82,11 +77,15 @@ has-by mask p h = has-true mask p (sym (and-mask (mask / 2 ^ p) 1) ∙ h)
 pub has-not-by : (mask p : ℕ) → (bitAnd (mask / 2 ^ p) 1 ≡ 1 → ⊥) → has mask p ≡ false
 has-not-by mask p h = ne-eqb (bit-at mask p) 1 (λ e. h (and-mask (mask / 2 ^ p) 1 ∙ e))
 
-pub below-by : (mask n : ℕ) → mask / 2 ^ n ≡ 0 → mask < 2 ^ n
+below-by : (mask n : ℕ) → mask / 2 ^ n ≡ 0 → mask < 2 ^ n
 below-by mask n h = let m : mask % 2 ^ n < 2 ^ n = mod-below mask (2 ^ n) (pow-pos n) in let z : mask / 2 ^ n * 2 ^ n ≡ 0 = ap (λ (k : ℕ). k * 2 ^ n) h ∙ omega arith in omega (arith, shr-split mask n)
 
-pub past-by : (mask n : ℕ) → (mask / 2 ^ n ≡ 0 → ⊥) → 2 ^ n ≤ mask
-past-by mask n h = elim (cases-lt mask (2 ^ n)) [ inl l ↦ absurd (h (div-eq-of-lt l)) | inr l ↦ l ]
+pub of-table-by : (mask n : ℕ) → eqb (mask / 2 ^ n) 0 ≡ ltb mask (2 ^ n)
+of-table-by mask n =
+    elim (cases-lt mask (2 ^ n)) [
+      | inl l ↦ eq-eqb (mask / 2 ^ n) 0 (div-eq-of-lt l) ∙ sym (lt-ltb mask (2 ^ n) l)
+      | inr g ↦ ne-eqb (mask / 2 ^ n) 0 (λ e. let l : mask < 2 ^ n = below-by mask n e in omega arith) ∙ sym (le-ltb mask (2 ^ n) g)
+    ]
 
 -- past the bits of a mask there are no more places
 pub in-past : (mask w k : ℕ) → mask < 2 ^ w → in-mask mask (w + k) ≡ in-mask mask w
@@ -106,9 +105,6 @@ in-more mask p = ap (in-mask mask) (add-one p) ∙ pool-suc (has mask) p
 -- 2 to a power that is as large at least
 pub pow-le : (i j : ℕ) → i ≤ j → 2 ^ i ≤ 2 ^ j
 pow-le i j le = elim (cases-lt i j) [ inl h ↦ (let q : 2 ^ i < 2 ^ j = pow-below i j h in omega arith) | inr h ↦ (let e : i ≡ j = omega arith in omega (arith, ap (λ (k : ℕ). 2 ^ k) e)) ]
-
-pub not-askable : (count place above : ℕ) → place < count → 2 ^ count ≤ above → askable count place above ≡ false
-not-askable count place above lt past = and-right (ltb place count) (ltb above (2 ^ count) && not (has above place)) (and-left (ltb above (2 ^ count)) (not (has above place)) (le-ltb above (2 ^ count) past))
 
 pub askable-by : (count place above : ℕ) → place < count → above < 2 ^ count → askable count place above ≡ not (has above place)
 askable-by count place above lt small = ap (λ (b : Bool). b && (ltb above (2 ^ count) && not (has above place))) (lt-ltb place count lt) ∙ ap (λ (b : Bool). b && not (has above place)) (lt-ltb above (2 ^ count) small)

@@ -1,9 +1,9 @@
 -- The piecewise test over any curve for segmented rows keeps the rules of a test. Assumes nothing.
 use mathlib.Core.Path.{_≡_, refl, ap, ap₂, sym, subst, _∙_, fun-ext}
-use mathlib.Core.Logic.{_⊎_, inl, inr}
+use mathlib.Core.Logic.{inl, inr}
 use mathlib.Core.Bool.{Bool, true, false, cond, _&&_}
 use mathlib.Core.List.{List, [], _∷_}
-use Prim.Native.Nat.{ℕ, zero, suc, _+_, _-_, _≤_, _<_}
+use Prim.Native.Nat.{ℕ, suc, _+_, _-_, _≤_, _<_}
 use native.Mathlib.Omega.{arith}
 use lib.Dec.{leb}
 use lib.ListN.{length}
@@ -13,18 +13,18 @@ use Rattle.std.specs.shelf.Lists.{All, sumBy}
 use Rattle.std.proofs.shelf.Tests.{leb-true, le-leb, and-parts, and-from}
 use Rattle.model.specs.Bags.{_~_, Part}
 use Rattle.model.specs.Patterns.{Pattern, final, step}
-use Rattle.model.specs.Rows.{Kind, Bounds, limit, all-lawful}
+use Rattle.model.specs.Rows.{Kind, Bounds, all-lawful}
 use Rattle.model.specs.Segments.{Segments, last, more, all-ticks, most-gaps, keeps-ranges, Shape, segmented}
-use Rattle.model.specs.Runs.{Job, Task, Run, Done, Unmet, Ends, Waits, ran, Level, Kept, above}
-use Rattle.model.specs.LawfulRuns.{Lawful, LawfulTask, NoLate}
+use Rattle.model.specs.Runs.{Job, Task, Run, Done, Unmet, ran, Level, Kept, above}
+use Rattle.model.specs.LawfulRuns.{Lawful, NoLate}
 use Rattle.curves.specs.Curves.{Workload, CurveRules}
 use Rattle.feasibility.specs.Tests.{TestRules, AtMost}
 use Rattle.feasibility.specs.Windows.{least, fits}
 use Rattle.feasibility.specs.Pieces.{plus, sum-of, up-to, part, piecewise, piecewise-answers}
 use Rattle.model.proofs.Marks.{Counts, met}
 use Rattle.model.proofs.Ticks.{some-same, none-some, counts, higher, higher-up, busy}
-use Rattle.model.proofs.Jobs.{Busy, EndIn, all-in-time}
-use Rattle.feasibility.proofs.Least.{Found, least-found, least-sooner}
+use Rattle.model.proofs.Jobs.{EndIn, all-in-time}
+use Rattle.feasibility.proofs.Least.{least-found, least-sooner}
 use Rattle.feasibility.proofs.Above.{sum-reordered, lawful-reordered, sum-part, lawful-part, cond-some, above-bound}
 
 -- ---- patterns that keep the ranges of segments

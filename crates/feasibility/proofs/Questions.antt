@@ -1,22 +1,13 @@
 -- Questions about lawful rows, and what a test answers then. Assumes nothing.
-use mathlib.Core.Path.{_≡_, refl, sym, ap, _∙_}
-use mathlib.Core.Logic.{_⊎_, inl, inr}
+use mathlib.Core.Path.{_≡_, refl}
 use mathlib.Core.Bool.{Bool, true, false, cond, not, _&&_}
 use mathlib.Core.List.{List, _∷_}
 use Prim.Native.Nat.{ℕ, _^_, _<_}
 use lib.Dec.{ltb}
 use lib.ListN.{length}
-use Rattle.std.specs.declared.option.Option.{Option}
-use Rattle.std.specs.declared.option.Option.the-variants.{Some, None}
 use Rattle.std.proofs.shelf.Tests.{and-parts, ltb-true}
 use Rattle.model.specs.Rows.{Kind, all-lawful}
 use Rattle.feasibility.specs.Masks.{row-of, rows-in, has, askable, lawful-question}
-
-pub and-known : (a b c : Bool) → a ≡ true → b ≡ true → (a && (b && c)) ≡ c
-and-known a b c e f = ap (λ (v : Bool). v && (b && c)) e ∙ ap (λ (v : Bool). v && c) f
-
-pub and-fails : (a b c : Bool) → a ≡ true → b ≡ false → (a && (b && c)) ≡ false
-and-fails a b c e f = ap (λ (v : Bool). v && (b && c)) e ∙ ap (λ (v : Bool). v && c) f
 
 -- an answer that is none of itself where a row is not lawful
 cond-and : {X : Type 0} (a b : Bool) (o n : X) → cond a (cond b o n) n ≡ cond (a && b) o n

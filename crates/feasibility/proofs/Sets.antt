@@ -1,9 +1,9 @@
 -- The rows of a set, as a loop over the places of the table goes through them. Assumes nothing.
 use mathlib.Core.Path.{_≡_, refl, sym, ap, _∙_}
-use mathlib.Core.Logic.{_⊎_, inl, inr}
+use mathlib.Core.Logic.{inl, inr}
 use mathlib.Core.Bool.{Bool, true, false, cond, _&&_}
 use mathlib.Core.List.{List, [], _∷_, _++_, map, append-nil}
-use Prim.Native.Nat.{ℕ, zero, suc, _+_, _^_, _≤_, _<_, min}
+use Prim.Native.Nat.{ℕ, zero, suc, _+_, _^_, _<_, min}
 use native.Mathlib.Omega.{arith}
 use lib.ListN.{length}
 use Rattle.std.proofs.shelf.Lists.{map-append}
@@ -12,7 +12,7 @@ use Rattle.std.proofs.shelf.Tests.{cases-lt, and-from, and-left, and-right}
 use Rattle.model.specs.Rows.{Kind, all-lawful}
 use Rattle.feasibility.specs.Masks.{row-of, has, in-mask, rows-in}
 use Rattle.feasibility.specs.Windows.{demand}
-use Rattle.feasibility.proofs.Masks.{pool-suc, in-more, in-min}
+use Rattle.feasibility.proofs.Masks.{in-more, in-min}
 use Rattle.feasibility.proofs.Above.{lawful-append}
 
 module _ {R : Type 0} (kind : Kind R) (rows : List R) (mask : ℕ) where

@@ -1,27 +1,26 @@
 -- The whole-job test over any curve keeps the rules of a test. Assumes nothing.
-use mathlib.Core.Path.{_≡_, refl, ap, ap₂, sym, _∙_, fun-ext}
-use mathlib.Core.Bool.{Bool, true, false, cond, _&&_}
+use mathlib.Core.Path.{_≡_, ap, ap₂, _∙_, fun-ext}
+use mathlib.Core.Bool.{Bool, true, cond, _&&_}
 use mathlib.Core.List.{List, [], _∷_}
-use Prim.Native.Nat.{ℕ, zero, suc, _+_, _-_, _≤_, _<_}
+use Prim.Native.Nat.{ℕ, _+_, _-_, _≤_, _<_}
 use native.Mathlib.Omega.{arith}
 use lib.Dec.{leb}
 use lib.ListN.{length}
-use Rattle.std.specs.declared.option.Option.{Option}
 use Rattle.std.specs.declared.option.Option.the-variants.{Some, None}
 use Rattle.std.specs.shelf.Lists.{All, sumBy}
 use Rattle.std.proofs.shelf.Tests.{leb-true, le-leb, and-parts, and-from}
 use Rattle.model.specs.Bags.{_~_, Part}
 use Rattle.model.specs.Patterns.{costs, suspensions}
-use Rattle.model.specs.Rows.{Kind, limit, all-lawful}
+use Rattle.model.specs.Rows.{Kind, all-lawful}
 use Rattle.model.specs.Runs.{Job, Task, Run, ran, Level, Kept, above}
-use Rattle.model.specs.LawfulRuns.{Lawful, LawfulTask, NoLate}
+use Rattle.model.specs.LawfulRuns.{Lawful, NoLate}
 use Rattle.curves.specs.Curves.{Workload, CurveRules}
 use Rattle.feasibility.specs.Tests.{TestRules, AtMost}
 use Rattle.feasibility.specs.Windows.{least, fits}
 use Rattle.feasibility.specs.WholeJobs.{whole-job, whole-job-answers}
 use Rattle.model.proofs.Ticks.{counts, higher, higher-up, busy}
 use Rattle.model.proofs.Jobs.{all-in-time, whole-in-time}
-use Rattle.feasibility.proofs.Least.{Found, least-found, least-sooner}
+use Rattle.feasibility.proofs.Least.{least-found, least-sooner}
 use Rattle.feasibility.proofs.Above.{sum-reordered, lawful-reordered, sum-part, lawful-part, cond-some, above-bound}
 
 pub all-allowed : {R : Type 0} (kind : Kind R) (x : R) → kind .lawful x ≡ true → (jobs : List Job)

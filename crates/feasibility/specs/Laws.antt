@@ -1,5 +1,6 @@
 -- What is proved of feasibility tests, over rows of any type R. Assumes nothing.
 use mathlib.Core.Path.{_≡_}
+use mathlib.Core.Bool.{Bool}
 use Prim.Native.Nat.{ℕ}
 use Rattle.std.specs.declared.option.Option.the-variants.{Some}
 use Rattle.model.specs.Rows.{Kind}
@@ -8,9 +9,14 @@ use Rattle.model.specs.LawfulRuns.{Lawful, NoLate}
 use Rattle.model.specs.Segments.{Shape, segmented}
 use Rattle.curves.specs.Curves.{Workload, CurveRules}
 use Rattle.feasibility.specs.Tests.{Answers, TestRules}
+use Rattle.feasibility.specs.Windows.{least, Least}
 use Rattle.feasibility.specs.WholeJobs.{whole-job-answers}
 use Rattle.feasibility.specs.Betters.{better-answers}
 use Rattle.feasibility.specs.Pieces.{piecewise-answers}
+
+-- `least` gives the smallest number that passes, and none only if there is none
+abbrev pub Smallest-found : Type 0
+Smallest-found = (p : ℕ → Bool) (d : ℕ) → Least p d (least p d)
 
 -- over a curve that keeps its rules, the whole-job test keeps the rules of a test
 abbrev pub Whole-job-tests : Type 0 → Type 0

@@ -1,5 +1,12 @@
-// The theorems of feasibility tests. Each function only states one, on its contract, for rows of any type.
-ghost use Rattle.feasibility.specs.Laws.{Better-tests, Bounds-kept, Piecewise-tests, Whole-job-tests};
+// The theorems of feasibility tests. Each function only states one, on its contract.
+ghost use Rattle.feasibility.specs.Laws.{Better-tests, Bounds-kept, Piecewise-tests, Smallest-found, Whole-job-tests};
+
+// What the tests look for by `least` is the smallest number that passes, and none only if there is none.
+pub fn smallest_found() -> u8
+    ensures { λ _. ⌜ Smallest-found ⌝ }
+{
+    0
+}
 
 // Over any curve that keeps its rules, the whole-job test keeps the rules of a test.
 pub fn whole_job_keeps<R>() -> u8

@@ -37,7 +37,7 @@ fn all_parts<C: Curve<Segmented>>(
 }
 
 // S and the sum of all r[j] together, if that is at most the deadline.
-fn joined(suspend: u64, parts: u64, deadline: u32) -> Option<u32>
+fn within_deadline(suspend: u64, parts: u64, deadline: u32) -> Option<u32>
     requires { ⌜ suspend + parts < 2 ^ 64 ⌝ }
     ensures { λ r. ⌜ r ≡ up-to deadline (Some (suspend + parts)) ⌝ }
 {
@@ -65,6 +65,6 @@ pub impl<C: Curve<Segmented>> Test<Segmented> for Piecewise<C> as PiecewiseTest 
         }
         let row = &rows[place];
         let parts = all_parts(&self.0, rows, row, above)?;
-        joined(row.suspend(), parts, row.deadline)
+        within_deadline(row.suspend(), parts, row.deadline)
     }
 }

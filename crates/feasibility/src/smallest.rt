@@ -21,8 +21,8 @@ pub fn demand<R: Row, C: Curve<R>>(curve: &C, rows: &[R], above: u32, t: u32) ->
     total
 }
 
-// The smallest t up to a limit into which `own` ticks and the curves of the rows in the set fit. What does not fit into t ticks fits into no
-// fewer than the curves ask for at t, since they never fall: so the search goes on there.
+// The smallest t up to a limit such that `own` ticks and the curves of the rows in the set at t fit into t ticks. Where they do not fit, no
+// window shorter than what they ask for at t does, since curves never fall: so the search goes on there.
 pub fn smallest<R: Row, C: Curve<R>>(
     curve: &C,
     rows: &[R],

@@ -4,7 +4,7 @@ use mathlib.Core.List.{List, [], _∷_, _++_}
 use Prim.Native.Nat.{ℕ, _+_, _-_, _<_, _≤_}
 use native.Mathlib.Omega.{arith}
 use lib.ListN.{length, take, drop, getD, set}
-use Rattle.std.proofs.shelf.Lists.{append-assoc, append-nil, take-append-drop, drop-more, drop-drop, set-at, take-at, drop-at, length-append, length-take-le}
+use Rattle.std.proofs.shelf.Lists.{append-assoc, append-nil, take-append-drop, drop-more, drop-drop, set-at, take-at, drop-at, length-append, length-drop, length-take-le}
 use Rattle.report.specs.Memory.{with-bytes, Puts}
 
 pub put-none : (m : List ℕ) (at : ℕ) → m ≡ with-bytes m at []
@@ -40,3 +40,7 @@ puts-join {a} {b} {c} {at} {p} {q} xs ys d e l =
     let o : p ≡ at + length xs = d .place in
     let whole : with-bytes b p ys ≡ with-bytes (with-bytes a at xs) (at + length xs) ys = rw (n, o) refl in
     record { memory = m ∙ (whole ∙ put-join a at xs ys l); place = omega (arith, e .place, d .place, length-append xs ys) }
+
+-- what is written from the start, in memory that keeps its length, is no longer than the memory
+pub put-within : (before after bytes : List ℕ) → length after ≡ length before → after ≡ with-bytes before 0 bytes → length bytes ≤ length before
+put-within before after bytes same e = omega (arith, ap length e, length-append bytes (drop (0 + length bytes) before), length-drop (0 + length bytes) before)

@@ -92,7 +92,7 @@ abbrev pub refused-bytes : Fault → List ℕ
 refused-bytes f =
     codes "REFUSED " ++ (decimal (refusal-number (fault-refusal f)) ++ (inner-site (fault-inner f) ++ (site (layer-letter (fault-layer f)) (fault-place f) ++ 0x0A ∷ [])))
 
--- reporting a refusal: the answered length, and the memory after it
-abbrev pub RefusalReported : Fault → List ℕ → List ℕ → Result ℕ Fault → Type 0
-RefusalReported f before after (Ok n) = (1024 ≤ length before) × (n ≡ length (refused-bytes f)) × (after ≡ with-bytes before 0 (refused-bytes f))
-RefusalReported f before after (Err fault) = (leb 1024 (length before) ≡ false) × (fault ≡ report-fault ShortMemory) × (after ≡ before)
+-- Writing a report into a memory: its length is answered, and nothing else is written; nothing at all where the memory is short.
+abbrev pub Writes : List ℕ → List ℕ → List ℕ → Result ℕ Fault → Type 0
+Writes report before after (Ok n) = (1024 ≤ length before) × (n ≡ length report) × (after ≡ with-bytes before 0 report)
+Writes report before after (Err fault) = (leb 1024 (length before) ≡ false) × (fault ≡ report-fault ShortMemory) × (after ≡ before)

@@ -4,6 +4,7 @@ ghost use mathlib.Core.Path.{_≡_};
 ghost use Prim.Native.Nat.{_+_, _≤_, _<_};
 ghost use lib.ListN.{length, take};
 ghost use Rattle.report.specs.Memory.{Puts};
+ghost use Rattle.std.specs.Vec.{made};
 ghost use Rattle.report.specs.Reports.{OrderReported, each-once, occurs, order-head, order-line, order-lines};
 use crate::fields::NEWLINE;
 use crate::fields::REPORT_BYTES;
@@ -11,6 +12,7 @@ use crate::fields::SPACE;
 use crate::fields::put_field;
 use crate::fields::put_text;
 use model::row::Row;
+use plan::stage::Arranged;
 use table::fault::Fault;
 use table::fault::PlanFault;
 use table::refusal::Refusal;
@@ -102,9 +104,8 @@ fn put_lines<R: Row>(
     at
 }
 
-// Writes the report of an order of so many tasks, and answers its length. It is refused, and nothing is written, if a memory is short, or an
-// entry of the order names no task or a task twice.
-pub fn report_order<R: Row>(
+// The report of an order of so many tasks.
+fn report_order<R: Row>(
     tasks: usize,
     questions: u32,
     rows: &[R],
@@ -112,7 +113,8 @@ pub fn report_order<R: Row>(
     bounds: &[u32],
     memory: &mut [u8],
 ) -> Result<usize, Fault>
-    ensures { λ r. ⌜ OrderReported (R·Row .meaning) tasks questions (now (rows .entry)) (now (order .entry)) (now (bounds .entry)) (now (memory .entry)) (now (memory .exit)) r ⌝ }
+    ensures reported { λ r. ⌜ OrderReported (R·Row .meaning) tasks questions (now (rows .entry)) (now (order .entry)) (now (bounds .entry)) (now (memory .entry)) (now (memory .exit)) r ⌝ }
+    ensures within { λ r. ⌜ made r (λ n. n ≤ length (now (memory .entry))) ⌝ }
 {
     if rows.len() < CAPACITY
         || order.len() < CAPACITY
@@ -132,4 +134,19 @@ pub fn report_order<R: Row>(
     }
     let start = put_head(memory, tasks, questions);
     Ok(put_lines(memory, start, tasks, rows, order, bounds))
+}
+
+// Writes the report of an arranged plan, and answers its length. It is refused, and nothing is written, if a memory is short, or an entry of the
+// order names no task or a task twice.
+pub fn report_plan<R: Row>(
+    plan: &Arranged,
+    rows: &[R],
+    order: &[u8],
+    bounds: &[u32],
+    memory: &mut [u8],
+) -> Result<usize, Fault>
+    ensures reported { λ r. ⌜ OrderReported (R·Row .meaning) (now (plan .entry) .tasks) (now (plan .entry) .questions) (now (rows .entry)) (now (order .entry)) (now (bounds .entry)) (now (memory .entry)) (now (memory .exit)) r ⌝ }
+    ensures within { λ r. ⌜ made r (λ n. n ≤ length (now (memory .entry))) ⌝ }
+{
+    report_order(plan.tasks(), plan.questions(), rows, order, bounds, memory)
 }

@@ -3,7 +3,8 @@ ghost use mathlib.Core.List.{[], _++_, _∷_};
 ghost use Prim.Native.Nat.{_+_, _≤_};
 ghost use lib.ListN.{length};
 ghost use Rattle.report.specs.Memory.{Puts};
-ghost use Rattle.report.specs.Reports.{RefusalReported, inner-site, site};
+ghost use Rattle.std.specs.Vec.{made};
+ghost use Rattle.report.specs.Reports.{Writes, inner-site, refused-bytes, site};
 use crate::fields::NEWLINE;
 use crate::fields::REPORT_BYTES;
 use crate::fields::SPACE;
@@ -39,7 +40,8 @@ fn put_inner(memory: &mut [u8], at: usize, inner: Option<PlanFault>) -> usize
 
 // Writes the line of a refusal, and answers its length. It is refused, and nothing is written, if the memory is short.
 pub fn report_refusal(fault: Fault, memory: &mut [u8]) -> Result<usize, Fault>
-    ensures { λ r. ⌜ RefusalReported fault (now (memory .entry)) (now (memory .exit)) r ⌝ }
+    ensures reported { λ r. ⌜ Writes (refused-bytes fault) (now (memory .entry)) (now (memory .exit)) r ⌝ }
+    ensures within { λ r. ⌜ made r (λ n. n ≤ length (now (memory .entry))) ⌝ }
 {
     if memory.len() < REPORT_BYTES {
         return Err(Fault::Plan(PlanFault {

@@ -15,9 +15,11 @@ use Rattle.model.specs.Rows.{Kind}
 use Rattle.table.specs.declared.refusal.Refusal.{Refusal}
 use Rattle.table.specs.declared.refusal.Refusal.the-variants.{TableFull, RowUnlawful, IdTaken}
 use Rattle.table.specs.Tables.{append-refusal, row-refusal, has-id, LawfulTable}
-use Rattle.table.proofs.Judges.{lawful-push}
+use Rattle.table.proofs.Judges.{lawful-none, lawful-push}
 use Rattle.table.proofs.Ids.{none-at}
 use Rattle.sheet.specs.Bytes.{end-byte}
+use Rattle.sheet.specs.Language.{Grammar, Parses, stop, move, goes, enters, ends, accepted}
+use Rattle.sheet.specs.Sheets.{Sheet, good, body, Good-is-lawful}
 use Rattle.sheet.specs.Spelling.{Spelled, no-rows, row-first}
 
 -- Rows after a table, each fit for its place, and the closing command.
@@ -94,3 +96,18 @@ module _ {R : Type 0} (Task : R → List ℕ → Type 0) (kind : Kind R) where
       let k : append-refusal kind table one ≡ None = not-barred kind table one (fit-in kind table one rows t n) in
       let later = follows-from (table ++ one ∷ []) m (rw e n) (rw e t) in
       rw append-assoc (row f k (rw e at later))
+
+-- the same for any grammar: the rows of an accepted sheet
+module _ {S R : Type 0} (g : Grammar S R) (kind : Kind R) where
+  rows-lawful : {s : S} {table all : List R} {place : ℕ} {bytes : List ℕ} → Parses g (append-refusal kind) s table place bytes (accepted all) → length table ≤ 32 → LawfulTable kind table → (length all ≤ 32) × LawfulTable kind all
+  rows-lawful (stop (ends c e)) n t = (n, t)
+  rows-lawful (move (goes c e) r) n t = rows-lawful r n t
+  rows-lawful {table = table} (move (enters {row = one} c e f) r) n t =
+      let k = fit kind table one f in
+      rows-lawful r (omega (arith, length-push table one, k .room)) (lawful-push kind table one t (k .lawful) (k .fresh))
+
+  pub sheet-lawful : {mark : ℕ} {letters : ℕ → Bool} {bytes : List ℕ} {table : List R} {letter : ℕ} → Sheet g (append-refusal kind) mark letters bytes (good table letter) → (length table ≤ 32) × LawfulTable kind table
+  sheet-lawful (body e n r) = rows-lawful r (omega arith) (lawful-none kind)
+
+pub good-is-lawful : (S R : Type 0) (kind : Kind R) → Good-is-lawful S R kind
+good-is-lawful S R kind g mark letters bytes table letter d = sheet-lawful g kind d

@@ -7,6 +7,9 @@ pub mod Lengths
 pub mod WholeSpelling
 pub mod Written
 pub mod Filled
+pub mod Views
 pub mod SegmentedSpelling
 pub mod Writing
+pub mod Reached
 pub mod Cuts
+pub mod NinthSegments

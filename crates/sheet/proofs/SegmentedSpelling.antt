@@ -24,7 +24,8 @@ use Rattle.sheet.specs.Spelling.{Four, two, four}
 use Rattle.sheet.specs.SegmentedSheets.{segmented-grammar, segmented-takes, segmented-effect, segmented-next, opened}
 use Rattle.sheet.specs.SegmentedTasks.{Opening, long, short, Suspension, range, equal, Body, final, next, row-of, SegmentedTask, task}
 use Rattle.sheet.proofs.Follows.{Follows, end, row}
-use Rattle.sheet.proofs.Lengths.{Long, nil, cons, long-of, pick, none-some}
+use Rattle.sheet.proofs.Lengths.{Long, nil, cons, long-of}
+use Rattle.sheet.proofs.Views.{View, open-view, short-view, end-view, segment-view, range-view, equal-view, task-end-view, view}
 use Rattle.sheet.proofs.Filled.{drafted, and-segment, and-suspension, filled, filled-is}
 
 module _ (j : List Segmented → Segmented → Option Refusal) where
@@ -129,23 +130,6 @@ module _ (j : List Segmented → Segmented → Option Refusal) where
       let is : filled (opened id period deadline .row) (m .segments) ≡ row-of id period deadline (m .segments) = filled-is id period deadline (m .segments) few in
       subst (λ (z : List ℕ). Follows SegmentedTask j table all z) (sym (e ∙ (ap (λ (z : List ℕ). opening ++ z) (m .stands) ∙ sym (append-assoc opening (m .part) (m .rest)))))
       (row (task o (m .body) few) (ap (λ (x : Segmented). j table x) (sym is) ∙ m .fit) (subst (λ (x : Segmented). Follows SegmentedTask j (table ++ x ∷ []) all (m .rest)) is (m .follows)))
-
-  -- the commands by stage, first byte and number of operand bytes
-  data View : Stage → ℕ → ℕ → Type 0 where
-    open-view : View BetweenTasks open-byte 10
-    short-view : View BetweenTasks open-short-byte 6
-    end-view : View BetweenTasks end-byte 0
-    segment-view : View BeforeSegment segment-byte 4
-    range-view : View AfterSegment suspension-byte 8
-    equal-view : View AfterSegment suspension-short-byte 4
-    task-end-view : View AfterSegment task-end-byte 0
-
-  view : (s : Stage) (tag n : ℕ) → segmented-takes s tag ≡ Some n → View s tag n
-  view BetweenTasks tag n e =
-      pick (View BetweenTasks) tag 10 n _ open-byte e open-view (λ f. pick (View BetweenTasks) tag 6 n _ open-short-byte f short-view (λ h. pick (View BetweenTasks) tag 0 n None end-byte h end-view (λ k. none-some n k)))
-  view BeforeSegment tag n e = pick (View BeforeSegment) tag 4 n None segment-byte e segment-view (λ k. none-some n k)
-  view AfterSegment tag n e =
-      pick (View AfterSegment) tag 8 n _ suspension-byte e range-view (λ f. pick (View AfterSegment) tag 4 n _ suspension-short-byte f equal-view (λ h. pick (View AfterSegment) tag 0 n None task-end-byte h task-end-view (λ k. none-some n k)))
 
   -- where the eighth segment is not passed
   not-passed : (one : Segmented) (d : SegmentedDraft) (table all : List Segmented) (bytes : List ℕ) (b : Bool) (stage : Stage) → leb 8 (one .count) ≡ b → _≡_ {A = Effect Segmented} (cond b TooManySegments Continues) Continues → Left ((cond b (drafted stage one) d) .stage) ((cond b (drafted stage one) d) .row) table all bytes → (one .count < 8) × Left (d .stage) (d .row) table all bytes

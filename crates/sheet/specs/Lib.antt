@@ -11,3 +11,4 @@ pub mod SegmentedTasks
 pub mod WholeTasks
 pub mod Writing
 pub mod Cuts
+pub mod NinthSegments

@@ -7,13 +7,14 @@ use lib.ListN.{length}
 use Rattle.std.specs.declared.option.Option.{Option}
 use Rattle.std.specs.declared.result.Result.{Result}
 use Rattle.std.specs.declared.result.Result.the-variants.{Ok, Err}
+use Rattle.model.specs.Rows.{Kind}
 use Rattle.table.specs.declared.refusal.Refusal.{Refusal}
 use Rattle.table.specs.declared.fault.Fault.{Fault}
 use Rattle.table.specs.Faults.{not-allowed-at, cut-at, bytes-after-at}
 use Rattle.sheet.specs.Language.{Grammar, Parses, accepted, refused}
 use Rattle.table.specs.declared.fault.Fault.the-variants.{InSheet}
 use Rattle.table.specs.declared.refusal.Refusal.the-variants.{ShortMemory}
-use Rattle.table.specs.Tables.{capacity, written}
+use Rattle.table.specs.Tables.{capacity, append-refusal, written, LawfulTable}
 
 pub data Verdict (R : Type 0) : Type 0 where
   good : (table : List R) (letter : ℕ) → Verdict R
@@ -61,3 +62,9 @@ abbrev pub Nothing-follows : (S R : Type 0) → Type 0
 Nothing-follows S R =
     (g : Grammar S R) (judge : List R → R → Option Refusal) (kind : ℕ) (letters : ℕ → Bool) (bytes : List ℕ) (table : List R) (letter more : ℕ) (rest : List ℕ)
     → Sheet g judge kind letters bytes (good table letter) → Sheet g judge kind letters (bytes ++ more ∷ rest) (bad (bytes-after-at (length bytes)))
+
+-- The table of an accepted sheet has at most 32 rows, all lawful, and no id twice.
+abbrev pub Good-is-lawful : (S R : Type 0) → Kind R → Type 0
+Good-is-lawful S R row-kind =
+    (g : Grammar S R) (kind : ℕ) (letters : ℕ → Bool) (bytes : List ℕ) (table : List R) (letter : ℕ)
+    → Sheet g (append-refusal row-kind) kind letters bytes (good table letter) → (length table ≤ capacity) × LawfulTable row-kind table

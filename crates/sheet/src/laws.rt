@@ -2,13 +2,15 @@
 ghost use Rattle.model.specs.SegmentedRows.{segmented-kind};
 ghost use Rattle.model.specs.WholeRows.{whole-kind};
 ghost use Rattle.sheet.specs.Cuts.{Cut-is-cut};
+ghost use Rattle.sheet.specs.NinthSegments.{Too-many-is-ninth};
 ghost use Rattle.sheet.specs.SegmentedSheets.{segmented-grammar};
 ghost use Rattle.sheet.specs.SegmentedTasks.{SegmentedTask};
-ghost use Rattle.sheet.specs.Sheets.{Nothing-follows, One-verdict};
+ghost use Rattle.sheet.specs.Sheets.{Good-is-lawful, Nothing-follows, One-verdict};
 ghost use Rattle.sheet.specs.Spelling.{Good-is-written};
 ghost use Rattle.sheet.specs.WholeSheets.{whole-grammar};
 ghost use Rattle.sheet.specs.WholeTasks.{WholeTask};
 ghost use Rattle.sheet.specs.Writing.{SegmentedFits, Table-is-written, WholeFits, segmented-code, whole-code};
+use model::row::Row;
 
 // Every byte string is either accepted with one letter and list of rows, or refused with one fault; a byte after an accepted sheet is refused.
 pub fn one_verdict<S, R>() -> u8
@@ -27,6 +29,13 @@ pub fn good_is_written() -> u8
     0
 }
 
+// The table of an accepted sheet has at most 32 rows, all lawful, and no id twice.
+pub fn good_is_lawful<S, R: Row>() -> u8
+    ensures { λ _. ⌜ Good-is-lawful S R (R·Row .meaning) ⌝ }
+{
+    0
+}
+
 // What is written of a lawful table of at most 32 rows, task after task, is an accepted sheet with that table.
 pub fn table_is_written() -> u8
     ensures segmented { λ _. ⌜ Table-is-written segmented-grammar segmented-kind SegmentedFits segmented-code ⌝ }
@@ -39,6 +48,14 @@ pub fn table_is_written() -> u8
 pub fn cut_is_cut() -> u8
     ensures segmented { λ _. ⌜ Cut-is-cut segmented-grammar segmented-kind ⌝ }
     ensures whole { λ _. ⌜ Cut-is-cut whole-grammar whole-kind ⌝ }
+{
+    0
+}
+
+// A sheet is refused for too many segments at a place exactly if whole commands stand up to that place, the last of them the eighth segment
+// of a row, and there stands a whole suspension.
+pub fn too_many_is_ninth() -> u8
+    ensures { λ _. ⌜ Too-many-is-ninth ⌝ }
 {
     0
 }

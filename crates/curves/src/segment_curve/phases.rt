@@ -3,19 +3,19 @@ ghost use mathlib.Core.Bool.{true};
 ghost use mathlib.Core.Path.{_≡_};
 ghost use Prim.Native.Nat.{ℕ, _+_, _-_, _≤_, _<_};
 ghost use Rattle.model.specs.Rows.{limit};
-ghost use Rattle.model.specs.Segments.{least-gaps, segmented-lawful};
+ghost use Rattle.model.specs.Segments.{all-ticks, least-gaps, segmented-lawful};
 ghost use Rattle.model.specs.SegmentedRows.{segmented-shape, segments-of};
-ghost use Rattle.curves.specs.SegmentCurve.{gap-after, phase-work, work-from};
+ghost use Rattle.curves.specs.SegmentCurve.{row-gap-after, row-work, row-work-from};
 use model::row::Row;
 use model::segmented::Segmented;
 use model::segmented::rules::SegmentedRow;
 
-// The least suspensions of a job in all.
-fn least_suspension(row: &Segmented) -> u32
+// The ticks of a job whose suspensions are all as short as they can be.
+fn shortest_job(row: &Segmented) -> u32
     requires { ⌜ segmented-lawful segmented-shape (now row) ≡ true ⌝ }
-    ensures { λ r. ⌜ r ≡ least-gaps (segments-of (now (row .entry))) ⌝ }
+    ensures { λ r. ⌜ r ≡ all-ticks (segments-of (now (row .entry))) + least-gaps (segments-of (now (row .entry))) ⌝ }
 {
-    let mut total: u32 = 0;
+    let mut total = row.compute() as u32;
     for j in 0..row.count as usize - 1 {
         total += row.least[j];
     }
@@ -25,7 +25,7 @@ fn least_suspension(row: &Segmented) -> u32
 // The gap after segment j.
 fn gap_after(row: &Segmented, j: usize) -> u32
     requires { ⌜ segmented-lawful segmented-shape (now row) ≡ true ⌝ }
-    ensures { λ r. ⌜ r ≡ gap-after (segments-of (now (row .entry))) (now (row .entry) .period) (now (row .entry) .deadline) j ⌝ }
+    ensures { λ r. ⌜ r ≡ row-gap-after segmented-shape (now (row .entry)) j ⌝ }
 {
     let count = row.count as usize;
     let place = j % count;
@@ -34,7 +34,7 @@ fn gap_after(row: &Segmented, j: usize) -> u32
     } else if j <= count {
         row.period - row.deadline
     } else {
-        row.period - row.compute() as u32 - least_suspension(row)
+        row.period - shortest_job(row)
     }
 }
 
@@ -43,7 +43,7 @@ fn work_between(row: &Segmented, from: usize, to: usize, time: u32) -> (u32, u32
     requires lawful { ⌜ segmented-lawful segmented-shape (now row) ≡ true ⌝ }
     requires ordered { ⌜ from ≤ to ⌝ }
     ensures within { λ r. ⌜ r .0 + r .1 ≤ time ⌝ }
-    ensures parts { λ r. ⌜ ((n : ℕ) → work-from (segments-of (now (row .entry))) (now (row .entry) .period) (now (row .entry) .deadline) ((to - from) + n) from time ≡ r .0 + work-from (segments-of (now (row .entry))) (now (row .entry) .period) (now (row .entry) .deadline) n to (r .1)) ⌝ }
+    ensures parts { λ r. ⌜ ((n : ℕ) → row-work-from segmented-shape (now (row .entry)) ((to - from) + n) from time ≡ r .0 + row-work-from segmented-shape (now (row .entry)) n to (r .1)) ⌝ }
 {
     let mut work: u32 = 0;
     let mut left = time;
@@ -60,7 +60,7 @@ pub fn work_of(row: &Segmented, phase: usize, window: u32) -> u32
     requires lawful { ⌜ segmented-lawful segmented-shape (now row) ≡ true ⌝ }
     requires known { ⌜ phase < now row .count ⌝ }
     requires short { ⌜ window ≤ limit ⌝ }
-    ensures { λ r. ⌜ r ≡ phase-work (segments-of (now (row .entry))) (now (row .entry) .period) (now (row .entry) .deadline) window phase ⌝ }
+    ensures { λ r. ⌜ r ≡ row-work segmented-shape (now (row .entry)) window phase ⌝ }
 {
     let count = row.count as usize;
     let (first, left) = work_between(row, phase, 2 * count, window);

@@ -48,7 +48,8 @@ pub impl Draft<Segmented> for SegmentedDraft as SegmentedSheet {
         letter == letter_of::<Segmented, WholeJob<SegmentCurve>>()
             || letter == letter_of::<Segmented, Piecewise<SegmentCurve>>()
             || letter == letter_of::<Segmented, WholeJob<Ceiling>>()
-            || letter == letter_of::<Segmented, Better<WholeJob<SegmentCurve>, Piecewise<SegmentCurve>>>()
+            || letter
+                == letter_of::<Segmented, Better<WholeJob<SegmentCurve>, Piecewise<SegmentCurve>>>()
     }
 
     fn start() -> SegmentedDraft {

@@ -1,3 +1,4 @@
+-- The proof of the theorem.
 use Rattle.feasibility.proofs.Betters.{better-test}
 use Rattle.feasibility.proofs.laws.better_keeps.Needs as need
 

@@ -1,3 +1,4 @@
+-- The proof of the theorem.
 use Rattle.feasibility.proofs.Orders.{all-kept}
 use Rattle.feasibility.proofs.laws.bounds_kept.Needs as need
 

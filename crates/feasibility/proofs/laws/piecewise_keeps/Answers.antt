@@ -1,3 +1,4 @@
+-- The proof of the theorem.
 use Rattle.feasibility.proofs.Pieces.{piecewise-test}
 use Rattle.feasibility.proofs.laws.piecewise_keeps.Needs as need
 

@@ -1,3 +1,4 @@
+-- The proof of the theorem.
 use Rattle.feasibility.proofs.WholeJobs.{whole-job-test}
 use Rattle.feasibility.proofs.laws.whole_job_keeps.Needs as need
 

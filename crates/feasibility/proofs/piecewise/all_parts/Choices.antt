@@ -1,3 +1,4 @@
+-- The sum over the segments passed so far.
 use mathlib.Core.Path.{_≡_}
 use Prim.Native.Nat.{ℕ, _*_, _≤_}
 use Rattle.std.specs.declared.option.Option.{Option}

@@ -1,3 +1,4 @@
+-- The rows of the places passed so far are lawful.
 use mathlib.Core.Path.{_≡_}
 use mathlib.Core.Bool.{true}
 use Rattle.model.specs.Rows.{all-lawful}

@@ -1,10 +1,11 @@
+-- One place more, and all places.
 use mathlib.Core.Path.{_≡_, sym, ap, _∙_}
 use mathlib.Core.Bool.{true, false}
-use Prim.Native.Nat.{ℕ, _+_, _<_, _≤_, _^_, min}
+use Prim.Native.Nat.{_<_, min}
 use native.Mathlib.Omega.{arith}
 use lib.ListN.{length}
 use Rattle.std.proofs.shelf.Lists.{getD-read}
-use Rattle.feasibility.specs.Masks.{has, row-of}
+use Rattle.feasibility.specs.Masks.{has}
 use Rattle.feasibility.specs.Windows.{demand}
 use Rattle.feasibility.proofs.Sets.{rows-below, all-rows, demand-yes, demand-no}
 use Rattle.feasibility.proofs.smallest.demand.Needs as need

@@ -1,3 +1,4 @@
+-- The sum over the places passed so far.
 use mathlib.Core.Path.{_≡_}
 use Prim.Native.Nat.{_*_, _≤_}
 use Rattle.feasibility.specs.Windows.{demand}

@@ -1,11 +1,12 @@
-use mathlib.Core.Path.{_≡_, refl}
+-- Each jump passes over nothing that fits.
+use mathlib.Core.Path.{_≡_}
 use mathlib.Core.Bool.{true}
-use Prim.Native.Nat.{ℕ, _+_, _≤_, _<_}
+use Prim.Native.Nat.{_+_}
 use native.Mathlib.Omega.{arith}
 use Rattle.std.proofs.shelf.Tests.{le-leb}
 use Rattle.feasibility.specs.Masks.{rows-in}
 use Rattle.feasibility.specs.Windows.{fits, demand}
-use Rattle.feasibility.proofs.Jumps.{NoneBelow, least-found-at, least-none, none-yet, jump}
+use Rattle.feasibility.proofs.Jumps.{least-found-at, least-none, none-yet, jump}
 use Rattle.feasibility.proofs.smallest.smallest.Needs as need
 
 pub loop-t-holds : need.loop-t-holds

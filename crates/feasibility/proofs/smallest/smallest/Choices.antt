@@ -1,3 +1,4 @@
+-- Nothing below t fits, and t goes up to the limit.
 use Prim.Native.Nat.{_+_, _-_, _≤_}
 use Rattle.feasibility.specs.Masks.{rows-in}
 use Rattle.feasibility.specs.Windows.{fits}

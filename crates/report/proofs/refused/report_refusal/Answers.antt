@@ -9,7 +9,7 @@ use Rattle.table.specs.Refusals.{refusal-number, layer-letter}
 use Rattle.table.specs.Faults.{fault-refusal, fault-layer, fault-place, fault-inner}
 use Rattle.report.specs.Memory.{Puts}
 use Rattle.report.specs.Reports.{site, inner-site, refused-bytes}
-use Rattle.report.proofs.Memory.{puts-join}
+use Rattle.report.proofs.Memory.{puts-join, put-within}
 use Rattle.report.proofs.Widths.{width-16}
 use Rattle.report.proofs.refused.report_refusal.Needs as need
 
@@ -57,4 +57,7 @@ returns c =
     let is : codes "REFUSED " ++ (decimal (c .number .result) ++ late) ≡ refused-bytes f = rw (number, inner, letter, place) refl in
     let done : Puts (c .args .memory .now) 0 (refused-bytes f) (c .put-byte .last .memory) (c .put-byte .result) =
     subst (λ (xs : List ℕ). Puts (c .args .memory .now) 0 xs (c .put-byte .last .memory) (c .put-byte .result)) is all in
-    (c .if-memory-lt-REPORT-BYTES .left, done .place ∙ (let e : 0 + length (refused-bytes f) ≡ length (refused-bytes f) = omega arith in e), done .memory)
+    record {
+      reported = (c .if-memory-lt-REPORT-BYTES .left, done .place ∙ (let e : 0 + length (refused-bytes f) ≡ length (refused-bytes f) = omega arith in e), done .memory);
+      within = omega (arith, put-within (c .args .memory .now) (c .put-byte .last .memory) (refused-bytes f) (omega arith) (done .memory), done .place);
+    }

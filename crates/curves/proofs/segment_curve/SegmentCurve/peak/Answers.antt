@@ -26,10 +26,10 @@ loop-phase-again c =
     elim (c .if-best-work .came) [
       | then-best-work w ↦
           w .best-is
-          ∙ greatest-higher work (c .loop-phase .phase) (c .loop-phase .best) (c .work-of-work .result) (c .loop-phase .kept .phase) (c .loop-phase .inv) (c .work-of-work .ensures) (w .if-best-work .taken)
+          ∙ greatest-higher work (c .loop-phase .phase) (c .loop-phase .best) (c .work-of-work .result) (c .loop-phase .kept .phase) (c .loop-phase .inv) (c .work-of-work .ensures) (omega (arith, w .if-best-work .taken))
       | else-best-work w ↦
           w .best-is
-          ∙ greatest-kept work (c .loop-phase .phase) (c .loop-phase .best) (c .work-of-work .result) (c .loop-phase .kept .phase) (c .loop-phase .inv) (c .work-of-work .ensures) (w .if-best-work .left)
+          ∙ greatest-kept work (c .loop-phase .phase) (c .loop-phase .best) (c .work-of-work .result) (c .loop-phase .kept .phase) (c .loop-phase .inv) (c .work-of-work .ensures) (omega (arith, w .if-best-work .left))
     ]
 
 -- all phases seen, the best is the peak

@@ -1,3 +1,4 @@
+-- The better of two tests keeps the rules of a test.
 use Rattle.feasibility.proofs.Betters.{better-test}
 use Rattle.feasibility.proofs.better.BetterTest.the-impl.Needs as need
 

@@ -1,16 +1,16 @@
-use mathlib.Core.Path.{_≡_, refl, sym, ap, _∙_}
+-- The bound is S plus all parts, up to the deadline, of a lawful row.
+use mathlib.Core.Path.{_≡_, sym, ap, _∙_}
 use mathlib.Core.Bool.{true}
 use mathlib.Core.List.{List, []}
-use Prim.Native.Nat.{ℕ, _+_, _<_, _≤_}
+use Prim.Native.Nat.{ℕ, _+_}
 use native.Mathlib.Omega.{arith}
 use lib.ListN.{getD}
-use Rattle.std.specs.declared.option.Option.{Option}
-use Rattle.std.specs.declared.option.Option.the-variants.{Some, None}
+use Rattle.std.specs.declared.option.Option.the-variants.{Some}
 use Rattle.std.proofs.shelf.Lists.{getD-default}
 use Rattle.model.specs.Segments.{most-gaps}
 use Rattle.model.specs.SegmentedRows.{segmented-kind, segments-of}
 use Rattle.model.specs.declared.segmented.Segmented.{Segmented}
-use Rattle.feasibility.specs.Masks.{lawful-question, row-of, rows-in}
+use Rattle.feasibility.specs.Masks.{lawful-question, row-of}
 use Rattle.feasibility.specs.Pieces.{plus, up-to}
 use Rattle.feasibility.proofs.Questions.{inside, lawful-here}
 use Rattle.feasibility.proofs.Parts.{some-segments, asked-is}
@@ -39,8 +39,8 @@ returns-in-Break-parts g c =
     let whole = ap (plus (Some (most-gaps (segments-of x)))) (sym (c .in-Break-parts .was tt) ∙ c .all-parts .ensures .sum) in
     c .from-residual .ensures ∙ ap (up-to (x .deadline)) whole ∙ sym (asked-is (g .C·Curve .workload) rows (c .args .place) (c .args .above) ok x (row-is rows (c .args .place) (c .args .above) ok))
 
-pub joined-requires : need.joined-requires
-joined-requires g c κs =
+pub within-deadline-requires : need.within-deadline-requires
+within-deadline-requires g c κs =
     let rows = c .args .rows .now in
     let x = row-at rows (c .args .place) in
     let ok : lawful-question segmented-kind rows (c .args .place) (c .args .above) ≡ true = sym (c .is-lawful-question .ensures) ∙ c .if-not-is-lawful-question .left in
@@ -54,5 +54,5 @@ returns g c =
     let ok : lawful-question segmented-kind rows (c .args .place) (c .args .above) ≡ true = sym (c .is-lawful-question .ensures) ∙ c .if-not-is-lawful-question .left in
     let gaps : c .suspend .result ≡ most-gaps (segments-of x) = c .suspend .ensures in
     let whole = ap (plus (Some (most-gaps (segments-of x)))) (sym (c .in-Continue-parts .was tt) ∙ c .all-parts .ensures .sum) in
-    c .joined .ensures ∙ ap (λ n. up-to (x .deadline) (Some (n + c .in-Continue-parts .parts))) gaps ∙ ap (up-to (x .deadline)) whole
+    c .within-deadline .ensures ∙ ap (λ n. up-to (x .deadline) (Some (n + c .in-Continue-parts .parts))) gaps ∙ ap (up-to (x .deadline)) whole
     ∙ sym (asked-is (g .C·Curve .workload) rows (c .args .place) (c .args .above) ok x (row-is rows (c .args .place) (c .args .above) ok))

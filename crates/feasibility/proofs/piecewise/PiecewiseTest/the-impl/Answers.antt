@@ -1,3 +1,4 @@
+-- The piecewise test keeps the rules of a test.
 use Rattle.model.specs.SegmentedRows.{segmented-shape}
 use Rattle.feasibility.proofs.Pieces.{piecewise-test}
 use Rattle.feasibility.proofs.piecewise.PiecewiseTest.the-impl.Needs as need

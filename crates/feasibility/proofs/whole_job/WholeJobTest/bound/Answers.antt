@@ -1,8 +1,9 @@
+-- C + S of a lawful row is small.
 use mathlib.Core.Path.{_≡_, sym, ap, _∙_}
 use mathlib.Core.Bool.{true}
 use native.Mathlib.Omega.{arith}
 use Rattle.std.proofs.shelf.Lists.{getD-read}
-use Rattle.feasibility.specs.Masks.{lawful-question, row-of}
+use Rattle.feasibility.specs.Masks.{lawful-question}
 use Rattle.feasibility.proofs.Questions.{inside, lawful-here}
 use Rattle.feasibility.proofs.whole_job.WholeJobTest.bound.Needs as need
 

@@ -1,3 +1,4 @@
+-- The whole-job test keeps the rules of a test.
 use Rattle.feasibility.proofs.WholeJobs.{whole-job-test}
 use Rattle.feasibility.proofs.whole_job.WholeJobTest.the-impl.Needs as need
 

@@ -1,0 +1,8 @@
+// What is proved of the assignment, for every kind of row, every test that keeps the rules and every table.
+ghost use Rattle.assign.specs.Laws.{Assignment-laws};
+
+pub fn assignment_stands<R>() -> u8
+    ensures { λ _. ⌜ Assignment-laws R ⌝ }
+{
+    0
+}

@@ -1,0 +1,4 @@
+pub mod Orders
+pub mod Reported
+pub mod Arranged
+pub mod Loaded
