@@ -16,7 +16,7 @@ use Rattle.assign.specs.Assignment.{Outcome, accepted, stuck, Stuck, Assigned,
 abbrev pub all-places : {R : Type 0} → List R → List ℕ
 all-places table = places (length table)
 
--- by these test the assignment for the table has this outcome
+-- by this test the assignment for the table has this outcome
 abbrev pub Arranges : {R : Type 0} → Kind R → Answers R → List R → Outcome → Type 0
 Arranges kind test table o = Assigned (test .answer) (row-of kind table) (all-places table) o
 
