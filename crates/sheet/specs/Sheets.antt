@@ -37,7 +37,7 @@ answer-of (good table letter) = Ok (length table, letter)
 answer-of (bad f) = Err f
 
 -- Replacing a table by a sheet, in memory that is long enough: the sheet's verdict is the answer, and its rows are the memory's first.
-pub record Loaded {S R : Type 0} (g : Grammar S R) (judge : List R → R → Option Refusal) (kind : ℕ) (letters : ℕ → Bool) (blank : R) (bytes : List ℕ) (before after : List R) (answer : Result (ℕ × ℕ) Fault) : Type 0 where
+pub record Replaced {S R : Type 0} (g : Grammar S R) (judge : List R → R → Option Refusal) (kind : ℕ) (letters : ℕ → Bool) (blank : R) (bytes : List ℕ) (before after : List R) (answer : Result (ℕ × ℕ) Fault) : Type 0 where
   pub verdict : Verdict R
   pub sheet : Sheet g judge kind letters bytes verdict
   pub answered : answer ≡ answer-of verdict
@@ -46,7 +46,7 @@ pub record Loaded {S R : Type 0} (g : Grammar S R) (judge : List R → R → Opt
 -- and in memory of any length
 pub record Replaces {S R : Type 0} (g : Grammar S R) (judge : List R → R → Option Refusal) (kind : ℕ) (letters : ℕ → Bool) (blank : R) (bytes : List ℕ) (before after : List R) (answer : Result (ℕ × ℕ) Fault) : Type 0 where
   pub short : length before < capacity → (answer ≡ Err (InSheet ShortMemory 0)) × (after ≡ before)
-  pub long : capacity ≤ length before → Loaded g judge kind letters blank bytes before after answer
+  pub long : capacity ≤ length before → Replaced g judge kind letters blank bytes before after answer
 
 -- Every byte string has exactly one verdict.
 pub record One {S R : Type 0} (g : Grammar S R) (judge : List R → R → Option Refusal) (kind : ℕ) (letters : ℕ → Bool) (bytes : List ℕ) : Type 0 where

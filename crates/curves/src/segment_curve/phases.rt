@@ -56,7 +56,7 @@ fn work_between(row: &Segmented, from: usize, to: usize, time: u32) -> (u32, u32
 }
 
 // The work of a phase in a window. From the third job on the jobs come one every period, so whole periods are not gone through one by one.
-pub fn work_of(row: &Segmented, phase: usize, window: u32) -> u32
+pub(super) fn work_of(row: &Segmented, phase: usize, window: u32) -> u32
     requires lawful { ⌜ segmented-lawful segmented-shape (now row) ≡ true ⌝ }
     requires known { ⌜ phase < now row .count ⌝ }
     requires short { ⌜ window ≤ limit ⌝ }
