@@ -12,9 +12,11 @@ use model::whole::WholeRow;
 use plan::stage::Arranged;
 use plan::stage::NotArranged;
 use plan::stage::Open;
+use report::order::report_plan;
 use sheet::whole::WholeSheet;
 use sheet::whole::WholeSheetRow;
 use std::io;
+use std::io::Write;
 use transcript::print_answer;
 use transcript::print_loaded;
 use transcript::print_read;
@@ -81,6 +83,24 @@ fn read_levels(rt: LibcRuntime, plan: &Arranged, memory: &Memory) -> io::Result<
     Ok(())
 }
 
+// The report is built in memory of at least 1,024 bytes; its length is answered.
+fn print_report(rt: LibcRuntime, plan: &Arranged, memory: &Memory) -> io::Result<()> {
+    let mut report = [0u8; 1024];
+    match report_plan(
+        plan,
+        &memory.rows,
+        &memory.order,
+        &memory.bounds,
+        &mut report,
+    ) {
+        Ok(length) => {
+            println!(rt, "report: {length} bytes")?;
+            rt.stdout().write_all(&report[..length])
+        }
+        Err(fault) => print_refusal(rt, "report", fault),
+    }
+}
+
 // Arranging takes the open plan and gives an arranged one, or the open one back. Reopening takes the arranged plan.
 fn arrange(rt: LibcRuntime, plan: Open, memory: &mut Memory) -> io::Result<Open> {
     let test = WholeJob(Ceiling);
@@ -89,6 +109,7 @@ fn arrange(rt: LibcRuntime, plan: Open, memory: &mut Memory) -> io::Result<Open>
             let questions = arranged.questions();
             println!(rt, "arrange: done, questions: {questions}")?;
             read_levels(rt, &arranged, memory)?;
+            print_report(rt, &arranged, memory)?;
             println!(rt, "reopen: done")?;
             Ok(arranged.reopen())
         }
