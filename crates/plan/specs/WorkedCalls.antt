@@ -11,6 +11,8 @@ use Rattle.table.specs.declared.fault.Fault.the-variants.{Assignment}
 use Rattle.table.specs.declared.refusal.Refusal.the-variants.{IdTaken}
 use Rattle.plan.specs.States.{State, opened, arranged, done, told, refused, refused-beside}
 use Rattle.plan.specs.Calls.{in-plan, Enter, Amend, Arrange, Reopen, Read}
+use Rattle.plan.specs.Sequences.{Reading, Reached}
+use Rattle.plan.specs.Sequences as calls
 
 -- a row with its deadline at the period
 abbrev pub row : ℕ → ℕ → ℕ → ℕ → Whole
@@ -74,3 +76,15 @@ pub record Worked : Type 0 where
   pub amend-9 : Amend whole-kind tighter-9 open-again done amended
   -- neither has a bound under the other
   pub arrange-again : Arrange whole-kind ceiling-test amended (refused-beside (Assignment 2) 3 2) without-order
+  -- so these calls, the last one first, lead from the new plan to the last state
+  pub sequence : (reading : Reading Whole) → Reached whole-kind reading made-new
+      ((calls.arrange ceiling-test test-keeps, refused-beside (Assignment 2) 3 2)
+      ∷ (calls.amend tighter-9, done)
+      ∷ (calls.reopen, done)
+      ∷ (calls.read 2, told 9 26)
+      ∷ (calls.arrange ceiling-test test-keeps, done)
+      ∷ (calls.enter tighter-9, refused (in-plan IdTaken 2))
+      ∷ (calls.enter task-9, done)
+      ∷ (calls.enter task-7, done)
+      ∷ [])
+      without-order
