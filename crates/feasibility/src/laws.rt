@@ -2,36 +2,26 @@
 ghost use Rattle.feasibility.specs.Laws.{Better-tests, Bounds-kept, Piecewise-tests, Smallest-found, Whole-job-tests};
 
 // What the tests look for by `least` is the smallest number that passes, and none only if there is none.
-pub fn smallest_found() -> u8
+pub fn smallest_found()
     ensures { λ _. ⌜ Smallest-found ⌝ }
-{
-    0
-}
+{}
 
 // Over any curve that keeps its rules, the whole-job test keeps the rules of a test.
-pub fn whole_job_keeps<R>() -> u8
+pub fn whole_job_keeps<R>()
     ensures { λ _. ⌜ Whole-job-tests R ⌝ }
-{
-    0
-}
+{}
 
 // Over any curve for segmented rows that keeps its rules, the piecewise test keeps the rules of a test.
-pub fn piecewise_keeps<R>() -> u8
+pub fn piecewise_keeps<R>()
     ensures { λ _. ⌜ Piecewise-tests R ⌝ }
-{
-    0
-}
+{}
 
 // The better of two tests keeps the rules of a test.
-pub fn better_keeps<R>() -> u8
+pub fn better_keeps<R>()
     ensures { λ _. ⌜ Better-tests R ⌝ }
-{
-    0
-}
+{}
 
 // In a lawful run in which each task has a bound under the rows above it, every bound is kept and no job is late.
-pub fn bounds_kept<R>() -> u8
+pub fn bounds_kept<R>()
     ensures { λ _. ⌜ Bounds-kept R ⌝ }
-{
-    0
-}
+{}

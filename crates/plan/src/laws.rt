@@ -4,64 +4,46 @@ ghost use Rattle.plan.specs.Returns.{ReopenMeans};
 ghost use Rattle.plan.specs.WorkedCalls.{Worked};
 
 // Each call on its stage has exactly one answer and one state after.
-pub fn calls_are_determined<R>() -> u8
+pub fn calls_are_determined<R>()
     ensures { λ _. ⌜ CallsDetermined R ⌝ }
-{
-    0
-}
+{}
 
 // The table is what the calls make of an empty one.
-pub fn tables_are_made<R>() -> u8
+pub fn tables_are_made<R>()
     ensures { λ _. ⌜ TablesMade R ⌝ }
-{
-    0
-}
+{}
 
 // Entries past the tasks have no influence on any answer.
-pub fn only_tasks_matter<R>() -> u8
+pub fn only_tasks_matter<R>()
     ensures { λ _. ⌜ OnlyTasksMatter R ⌝ }
-{
-    0
-}
+{}
 
 // Entries from place 32 on are never written.
-pub fn nothing_is_written_past<R>() -> u8
+pub fn nothing_is_written_past<R>()
     ensures { λ _. ⌜ NothingWrittenPast R ⌝ }
-{
-    0
-}
+{}
 
 // An arranged plan has a lawful table, and every level of it can be read.
-pub fn arranged_plans_are_readable<R>() -> u8
+pub fn arranged_plans_are_readable<R>()
     ensures { λ _. ⌜ ArrangedReadable R ⌝ }
-{
-    0
-}
+{}
 
 // Accepted orders hold, refusals are exact, and no sequence of calls reaches an order that does not hold.
-pub fn promise_is_kept<R>() -> u8
+pub fn promise_is_kept<R>()
     ensures { λ _. ⌜ Promises R ⌝ }
-{
-    0
-}
+{}
 
 // What reopen ensures is its relation.
-pub fn reopening_is_exact<R>() -> u8
+pub fn reopening_is_exact<R>()
     ensures { λ _. ⌜ ReopenMeans R ⌝ }
-{
-    0
-}
+{}
 
 // The sheet language is a reading of sheets.
-pub fn sheets_are_read<S, R>() -> u8
+pub fn sheets_are_read<S, R>()
     ensures { λ _. ⌜ SheetsRead S R ⌝ }
-{
-    0
-}
+{}
 
 // A sequence of calls worked out, with every answer and every memory.
-pub fn sequence_is_worked() -> u8
+pub fn sequence_is_worked()
     ensures { λ _. ⌜ Worked ⌝ }
-{
-    0
-}
+{}
