@@ -167,7 +167,7 @@ def main():
             if line.lstrip().startswith("//"):
                 lines[i] = quoted(line, to)
             else:
-                lines[i] = WORD.sub(lambda m: to.get(m.group(0), m.group(0)), line)
+                lines[i] = "".join(w if w.startswith('"') else WORD.sub(lambda m: to.get(m.group(0), m.group(0)), w) for w in re.split(r'("[^"]*")', line))
         open(p, "w").write("\n".join(lines))
 
 

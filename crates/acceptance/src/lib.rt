@@ -1,4 +1,5 @@
 // Tests of the parts together: limits of rows and tables, and the letters of the tests.
+#![tactic(auto)]
 
 #[cfg(test)]
 mod tests {

@@ -14,9 +14,7 @@ use model::row::Row;
 use model::segmented::Segmented;
 use model::whole::Whole;
 use sheet::bytes::WHOLE;
-use sheet::segmented::commands::Draft;
 use sheet::sheet::parse_sheet;
-use sheet::whole::Draft;
 
 // Why a question was not put.
 #[derive(Clone, Copy)]

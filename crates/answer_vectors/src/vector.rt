@@ -2,7 +2,7 @@
 ghost use Rattle.std.specs.Prelude.{◌≤◌};
 
 use crate::ask::ask;
-use hex::decode;
+use hexadecimal::decode;
 
 // How many bytes of a sheet a line may have.
 const SHEET_BYTES: usize = 4096;

@@ -1,11 +1,10 @@
 // A segmented task as its commands in a sheet, in hexadecimal.
 ghost use Rattle.std.specs.Prelude.{◌≤◌, length, IfSome};
 
-use hex::decode;
+use hexadecimal::decode;
 use model::row::Row;
 use model::segmented::Segmented;
 use sheet::bytes::{END, SEGMENTED};
-use sheet::segmented::commands::Draft;
 use sheet::sheet::parse_sheet;
 
 // Enough for a kind, a letter, a task of eight segments and the closing command.

@@ -1,5 +1,7 @@
 // A session with the library, to learn it by: rows are entered, amended and withdrawn, plans are arranged, read and reopened, sheets are loaded,
 // and calls are refused on the way. Each call prints a line with its answer.
+#![tactic(auto)]
+
 mod transcript;
 
 use curves::ceiling::Ceiling;
@@ -8,7 +10,6 @@ use model::row::Row;
 use model::whole::Whole;
 use plan::stage::{Arranged, NotArranged, Open};
 use report::order::report_plan;
-use sheet::whole::Draft;
 use std::io;
 use std::io::Write;
 use transcript::{print_answer, print_loaded, print_read, print_refusal};

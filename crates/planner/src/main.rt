@@ -1,4 +1,6 @@
 // The program: a sheet on standard input, its order with bounds or its refusal on standard output.
+#![tactic(auto)]
+
 use anyhow::anyhow;
 use planning::plan_sheet;
 use std::io::{Read, Write};

@@ -1,5 +1,7 @@
 // From a sheet's bytes to its report's bytes: the sheet is read, its tasks are arranged by the test that its letter names, and the order or the
 // refusal is reported.
+#![tactic(auto)]
+
 ghost use Rattle.std.specs.Prelude.{◌≡◌, ◌≤◌, length, take, IfOk, ◌==◌, slice_index};
 ghost use Rattle.table.specs.Tables.{LawfulTable};
 ghost use Rattle.model.specs.SegmentedRows.{segmented_kind};
@@ -22,8 +24,6 @@ use report::order::report_plan;
 use report::refused::report_refusal;
 use sheet::bytes::WHOLE;
 use sheet::draft::SheetRow;
-use sheet::segmented::commands::Draft;
-use sheet::whole::Draft;
 use table::fault::Fault;
 
 // Arranges a plan of a lawful table, and reports the order or that none is found.
@@ -49,7 +49,7 @@ fn report_arranged<R: Row, Q: Test<R>>(
 // Loads a sheet into a plan, and answers the sheet's letter.
 fn load_rows<R: SheetRow>(plan: &mut Open, sheet: &[u8], rows: &mut [R]) -> Result<u8, Fault>
     requires { 32 ≤ length rows.old }
-    ensures { RowsLoaded Draft-as-Draft.grammar R.Row.meaning Draft-as-Draft.mark Draft-as-Draft.letters sheet.now (take plan.new.tasks rows.new) result }
+    ensures { RowsLoaded R.Draft.Draft.grammar R.Row.meaning R.Draft.Draft.mark R.Draft.Draft.letters sheet.now (take plan.new.tasks rows.new) result }
 {
     plan.load(sheet, rows)
 }

@@ -1,11 +1,13 @@
 // Plans damaged sheets: every proper prefix of long sheets, and short sheets with every change of one byte. Each damaged sheet must have one
 // well-formed report; that of a prefix must be the refusal of a sheet that is cut.
+#![tactic(auto)]
+
 ghost use Rattle.std.specs.Prelude.{◌≡◌, ◌<◌, length};
 
-mod report;
+mod read_back;
 
 use planning::plan_sheet;
-use report::{Report, read_report};
+use read_back::{Report, read_report};
 use std::fs;
 use std::str::from_utf8;
 
@@ -97,7 +99,7 @@ fn run(rt: &HostRuntime) -> anyhow::Result<()> {
         malformed,
     } = tally;
     println!(rt;
-        "changes: {orders} orders, {refusals} refusals, {malformed} without a well_formed report"
+        "changes: {orders} orders, {refusals} refusals, {malformed} without a well-formed report"
     )?;
     Ok(())
 }

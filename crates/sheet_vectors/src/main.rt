@@ -1,4 +1,6 @@
 // Plans every sheet of data/sheets and compares its report with the expected one. The names stand in data/names, one to a line.
+#![tactic(auto)]
+
 use planning::plan_sheet;
 use std::fs;
 

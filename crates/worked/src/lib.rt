@@ -1,5 +1,7 @@
 // Worked examples: from the bytes of a sheet to the bytes of its report, values of the segment curve, and bounds under each test. They are one
 // statement, computed from the very definitions that the contracts of the code use. So are values from an independent implementation.
+#![tactic(auto)]
+
 ghost use Rattle.worked.specs.Worked.{Worked};
 ghost use Rattle.worked.specs.Outside.{OutsideValues};
 

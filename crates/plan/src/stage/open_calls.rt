@@ -67,7 +67,7 @@ impl Open {
 
     // Replaces the whole table by a sheet, and answers the sheet's letter. A refused sheet leaves no task.
     pub fn load<R: SheetRow>(&mut self, sheet: &[u8], rows: &mut [R]) -> Result<u8, Fault>
-        ensures { Loads R.Row.meaning Draft-as-Draft.grammar Draft-as-Draft.mark Draft-as-Draft.letters sheet.now self.old rows.old (letter_or_refused result) self.new rows.new }
+        ensures { Loads R.Row.meaning R.Draft.Draft.grammar R.Draft.Draft.mark R.Draft.Draft.letters sheet.now self.old rows.old (letter_or_refused result) self.new rows.new }
     {
         if rows.len() < CAPACITY {
             return Err(Fault::InSheet(Refusal::ShortMemory, 0));

@@ -1,7 +1,7 @@
 -- The bytes before `i` are spelled, and those from `count` on are as they were.
 use Rattle.std.proofs.Common.{◌≡◌, ℕ, ◌+◌, ◌*◌, ◌<◌, get_or, drop}
-use Rattle.hex.specs.Hexadecimal.{SpellsByte}
-use Rattle.hex.proofs.decode.Given as goal
+use Rattle.hexadecimal.specs.Hexadecimal.{SpellsByte}
+use Rattle.hexadecimal.proofs.decode.Given as goal
 
 abbrev pub invariant-loop-i : goal.invariant-loop-i
 invariant-loop-i l =

@@ -1,7 +1,7 @@
 -- One more byte is spelled at each turn; after the last the memory begins with all of them.
 use Rattle.std.proofs.Common.{◌≡◌, ◌/◌, ◌<◌, ◌≢◌, length, take, ◌∙◌, arith, get_or-set_other, get_or-set_same, below_more}
 use Rattle.std.proofs.lemmas.List.{drop-set-lt, get_or-take, length-take-le}
-use Rattle.hex.proofs.decode.Goals as goal
+use Rattle.hexadecimal.proofs.decode.Goals as goal
 
 pub loop-i-preserved : goal.loop-i-preserved
 loop-i-preserved c = (

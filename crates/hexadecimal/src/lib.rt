@@ -1,6 +1,8 @@
 // Bytes from text with two hexadecimal digits for each.
+#![tactic(auto)]
+
 ghost use Rattle.std.specs.Prelude.{◌≡◌, ℕ, ◌<◌, MatchOption, ◌≢◌};
-ghost use Rattle.hex.specs.Hexadecimal.{Decodes, SpellsByte, symbol_of};
+ghost use Rattle.hexadecimal.specs.Hexadecimal.{Decodes, SpellsByte, symbol_of};
 
 // The value of a digit.
 fn digit(symbol: u8) -> Option<u8>
