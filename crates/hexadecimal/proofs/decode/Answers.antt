@@ -9,7 +9,7 @@ loop-i-preserved c = (
       _
       _
       (λ k h. let ne : k ≢ c.loop-i.i = omega arith in rw get_or-set_other (c.loop-i.invariant.0 k h))
-      (let lt : c.loop-i.i < length c.loop-i.memory = omega arith in rw get_or-set_same c.in-ok-memory.ensures),
+      (let lt : c.loop-i.i < length c.loop-i.memory = omega arith in rw get_or-set_same c.in_ok-memory.ensures),
   drop-set-lt _ c.loop-i.memory c.loop-i.i _ (omega arith) ∙ c.loop-i.invariant.1,
 )
 

@@ -10,7 +10,7 @@ use Rattle.assign.specs.Search.{has_room}
 use Rattle.assign.proofs.Steps.{bit_in, bit_out, count_yes, count_no, count_full, begun, none_failed, failed_yes, failed_no, takes, stepped, accepts, sticks}
 use Rattle.assign.proofs.Verdicts.{tells_stuck, tells_accepted, largest, none_fits, fitted, some_fits}
 use Rattle.assign.proofs.search.assign.Goals as goal
-use Rattle.assign.proofs.search.assign.Goals.{then-pool-place-eq1+in-default, else-pool-place-eq1}
+use Rattle.assign.proofs.search.assign.Goals.{then-pool-place-eq1+in_default, else-pool-place-eq1}
 
 pub levels-init : goal.levels-init
 levels-init g c =
@@ -46,12 +46,12 @@ candidates-preserved g c =
     let x : ℕ = c.candidates.place in
     let same : c.candidates.pool ≡ p = c.candidates.invariant.1 in
     elim c.if-pool-place-eq1.branch [
-      | then-pool-place-eq1+in-default w ↦
+      | then-pool-place-eq1+in_default w ↦
           (let bit : bit_at p x ≡ 1 = bit_in c.candidates.pool p x same w.if-pool-place-eq1.true in
           let back : bit_or (p - 2 ^ x) (2 ^ x) ≡ p = or_back p x bit in
           let more : length (in_mask p (x + 1)) ≡ length (in_mask p x) + 1 = count_yes p x bit in
           let rest : w.rest.result ≡ p - 2 ^ x = cc in
-          let none : asked k t rows x (p - 2 ^ x) ≡ None = sym (w.in-default.ensures ∙ ap (asked k t rows x) rest) in
+          let none : asked k t rows x (p - 2 ^ x) ≡ None = sym (w.in_default.ensures ∙ ap (asked k t rows x) rest) in
           let fails : under_others t.answer (row_of k rows) (in_mask p (length rows)) x ≡ None = sym (asked_others k t rows p x (omega arith) c.levels.invariant.2 bit) ∙ none in (
             omega arith,
             search rules,

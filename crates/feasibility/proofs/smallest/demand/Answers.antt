@@ -17,7 +17,7 @@ loop-place-preserved g c =
           let read = get_or_read c.args.rows.now c.loop-place.place w.index-rows-place.result inside w.index-rows-place.is g.R.Row.meaning.blank in
           let same = ap (λ y. ticks y c.args.t) read in
           let more = demand_yes g.R.Row.meaning c.args.rows.now c.args.above ticks c.args.t c.loop-place.place here in
-          (omega (arith, w.total-is, w.from-total.ensures, w.ticks.type-inv), omega (arith, w.total-is, w.from-total.ensures, w.ticks.ensures))
+          (omega (arith, w.total-is, w.from-total.ensures, w.ticks.type_inv), omega (arith, w.total-is, w.from-total.ensures, w.ticks.ensures))
       | else-holds w ↦
           let here : has c.args.above c.loop-place.place ≡ false = sym c.holds.ensures ∙ w.if-holds.false in
           let same = demand_no g.R.Row.meaning c.args.rows.now c.args.above ticks c.args.t c.loop-place.place here in

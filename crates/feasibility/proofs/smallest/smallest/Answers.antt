@@ -16,8 +16,8 @@ loop-t-preserved g c =
     let none = jump g.R.Row.meaning g.C.Curve.workload g.met.C.Curve.keeps c.args.own A c.loop-t.t c.loop-t.invariant.1 in
     (omega arith, λ u l. none u (omega (arith, c.demand.ensures.sum)))
 
-pub overflow-add-next : goal.overflow-add-next
-overflow-add-next g c = omega (arith, c.demand.ensures.small)
+pub overflow_add-next : goal.overflow_add-next
+overflow_add-next g c = omega (arith, c.demand.ensures.small)
 
 pub returns-then-next-t : goal.returns-then-next-t
 returns-then-next-t g c =

@@ -3,4 +3,4 @@ use Rattle.report.proofs.Memory.{puts_join}
 use Rattle.report.proofs.fields.put_field.Goals as goal
 
 pub returns : goal.returns
-returns c = puts_join (decimal c.args.number) (c.args.end ∷ []) c.put-number-next.ensures c.put-byte.ensures (omega arith)
+returns c = puts_join (decimal c.args.number) (c.args.end ∷ []) c.put_number-next.ensures c.put_byte.ensures (omega arith)

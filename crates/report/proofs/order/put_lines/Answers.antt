@@ -31,10 +31,10 @@ loop-level-preserved g c =
     ∙ (ap (λ (n : ℕ). order_line (suc i) n (get_or bounds i 0) c.deadline.result) id
     ∙ ap (λ (n : ℕ). order_line (suc i) (kind.ident (row_at kind rows order bounds i)) (get_or bounds i 0) n) deadline) in
     let before = c.loop-level.invariant.1 in
-    let more = puts_join (order_lines kind rows order bounds i) (order_line (i + 1) c.id.result (get_or bounds i 0) c.deadline.result) before c.put-line-at.ensures.puts (omega (arith, before.place)) in
+    let more = puts_join (order_lines kind rows order bounds i) (order_line (i + 1) c.id.result (get_or bounds i 0) c.deadline.result) before c.put_line-at.ensures.puts (omega (arith, before.place)) in
     let all : order_lines kind rows order bounds i ++ order_line (i + 1) c.id.result (get_or bounds i 0) c.deadline.result ≡ order_lines kind rows order bounds (i + 1) =
     ap (λ (xs : List ℕ). order_lines kind rows order bounds i ++ xs) line ∙ ap (order_lines kind rows order bounds) (sym (add-one i)) in
-    (omega (arith, c.put-line-at.ensures.short), subst (λ (xs : List ℕ). Puts c.args.memory.now c.args.from xs c.put-line-at.new.memory c.put-line-at.result) all more)
+    (omega (arith, c.put_line-at.ensures.short), subst (λ (xs : List ℕ). Puts c.args.memory.now c.args.from xs c.put_line-at.new.memory c.put_line-at.result) all more)
 
 pub returns : goal.returns
 returns g c =

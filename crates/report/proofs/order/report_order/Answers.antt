@@ -12,7 +12,7 @@ returns g c =
     let bounds = c.args.bounds.now in
     let tasks = c.args.tasks in
     let once : each_once tasks (take tasks order) ≡ true = search rules in
-    let all = puts_join (order_head tasks c.args.questions) (order_lines kind rows order bounds tasks) c.put-head-start.ensures.puts c.put-lines.ensures (omega (arith, c.put-head-start.ensures.puts.place, c.put-head-start.ensures.short)) in
+    let all = puts_join (order_head tasks c.args.questions) (order_lines kind rows order bounds tasks) c.put_head-start.ensures.puts c.put_lines.ensures (omega (arith, c.put_head-start.ensures.puts.place, c.put_head-start.ensures.short)) in
     let whole = order_bytes kind rows order bounds tasks c.args.questions in
     record {
       reported = (
@@ -20,5 +20,5 @@ returns g c =
         all.place ∙ (let e : 0 + length whole ≡ length whole = omega arith in e),
         all.memory,
       );
-      within = omega (arith, put_within c.args.memory.now c.put-lines.new.memory whole (omega arith) all.memory, all.place);
+      within = omega (arith, put_within c.args.memory.now c.put_lines.new.memory whole (omega arith) all.memory, all.place);
     }

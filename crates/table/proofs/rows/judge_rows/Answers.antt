@@ -12,21 +12,21 @@ loop-place-preserved g c =
     let kind = g.R.Row.meaning in
     let row_is = get_or_read c.table-rows.result.now c.loop-place.place c.index-rows-place.result c.loop-place-test.true c.index-rows-place.is kind.blank in
     lawful_more kind c.table-rows.result.now c.loop-place.place c.loop-place-test.true c.loop-place.invariant
-    (ap kind.lawful (sym row_is) ∙ (sym c.is-lawful.ensures ∙ c.if-not-is-lawful.false))
-    (ap (λ (row : _). has_id kind (kind.ident row) (take c.loop-place.place c.table-rows.result.now)) (sym row_is) ∙ has_before kind false c.id.result c.index-rows-place.result c.table-rows.result.now c.loop-place.place c.if-holds-id.ensures c.id.ensures)
+    (ap kind.lawful (sym row_is) ∙ (sym c.is_lawful.ensures ∙ c.if-not-is_lawful.false))
+    (ap (λ (row : _). has_id kind (kind.ident row) (take c.loop-place.place c.table-rows.result.now)) (sym row_is) ∙ has_before kind false c.id.result c.index-rows-place.result c.table-rows.result.now c.loop-place.place c.if-holds_id.ensures c.id.ensures)
 
-pub returns-then-not-is-lawful : goal.returns-then-not-is-lawful
-returns-then-not-is-lawful g c =
+pub returns-then-not-is_lawful : goal.returns-then-not-is_lawful
+returns-then-not-is_lawful g c =
     unlawful g.R.Row.meaning c.table-rows.result.now _ c.loop-place.place c.index-rows-place.result c.table-rows.ensures c.loop-place-test.true
     (get_or_read c.table-rows.result.now c.loop-place.place c.index-rows-place.result c.loop-place-test.true c.index-rows-place.is g.R.Row.meaning.blank) c.loop-place.invariant
-    (sym c.is-lawful.ensures ∙ c.if-not-is-lawful.true)
+    (sym c.is_lawful.ensures ∙ c.if-not-is_lawful.true)
 
-pub returns-then-holds-id : goal.returns-then-holds-id
-returns-then-holds-id g c =
+pub returns-then-holds_id : goal.returns-then-holds_id
+returns-then-holds_id g c =
     taken g.R.Row.meaning c.table-rows.result.now _ c.loop-place.place c.index-rows-place.result c.table-rows.ensures c.loop-place-test.true
     (get_or_read c.table-rows.result.now c.loop-place.place c.index-rows-place.result c.loop-place-test.true c.index-rows-place.is g.R.Row.meaning.blank) c.loop-place.invariant
-    (sym c.is-lawful.ensures ∙ c.if-not-is-lawful.false)
-    (has_before g.R.Row.meaning true c.id.result c.index-rows-place.result c.table-rows.result.now c.loop-place.place c.if-holds-id.ensures c.id.ensures)
+    (sym c.is_lawful.ensures ∙ c.if-not-is_lawful.false)
+    (has_before g.R.Row.meaning true c.id.result c.index-rows-place.result c.table-rows.result.now c.loop-place.place c.if-holds_id.ensures c.id.ensures)
 
 pub returns : goal.returns
 returns g c =

@@ -4,8 +4,8 @@ use Rattle.curves.proofs.ceiling.CeilingCurve.ticks.Goals as goal
 
 pub returns : goal.returns
 returns g c =
-    product g.R.Row.meaning c.args.row.now c.args.t c.div-ceil-jobs.result c.compute-compute.result
+    product g.R.Row.meaning c.args.row.now c.args.t c.div_ceil-jobs.result c.compute-compute.result
     (search rules) (search rules) (search rules)
 
-pub overflow-cast-result : goal.overflow-cast-result
-overflow-cast-result g c = omega (arith, returns g c, small_always g.R.Row.meaning c.args.row.now c.args.t)
+pub overflow_cast-result : goal.overflow_cast-result
+overflow_cast-result g c = omega (arith, returns g c, small_always g.R.Row.meaning c.args.row.now c.args.t)

@@ -9,13 +9,13 @@ use Rattle.curves.proofs.RowSegments.{LawfulRow, limits, count_is}
 use Rattle.curves.proofs.segment_curve.SegmentCurve.peak.Goals as goal
 use Rattle.curves.proofs.segment_curve.SegmentCurve.peak.Goals.{then-best-work, else-best-work}
 
-pub work-of-requires : goal.work-of-requires
-work-of-requires c =
+pub work_of-requires : goal.work_of-requires
+work_of-requires c =
     let law : LawfulRow c.args.row.now = cc in
     record { lawful = law; known = (limits c.args.row.now law).some; short = omega arith }
 
 pub loop-phase-init : goal.loop-phase-init
-loop-phase-init c = λ i. (c.work-of.ensures i, 0)
+loop-phase-init c = λ i. (c.work_of.ensures i, 0)
 
 pub loop-phase-preserved : goal.loop-phase-preserved
 loop-phase-preserved c =
@@ -23,10 +23,10 @@ loop-phase-preserved c =
     elim c.if-best-work.branch [
       | then-best-work w ↦
           w.best-is
-          ∙ greatest_higher work c.loop-phase.phase c.loop-phase.best c.work-of-work.result c.loop-phase.auto.phase c.loop-phase.invariant c.work-of-work.ensures (omega (arith, w.if-best-work.true))
+          ∙ greatest_higher work c.loop-phase.phase c.loop-phase.best c.work_of-work.result c.loop-phase.auto.phase c.loop-phase.invariant c.work_of-work.ensures (omega (arith, w.if-best-work.true))
       | else-best-work w ↦
           w.best-is
-          ∙ greatest_kept work c.loop-phase.phase c.loop-phase.best c.work-of-work.result c.loop-phase.auto.phase c.loop-phase.invariant c.work-of-work.ensures (omega (arith, w.if-best-work.false))
+          ∙ greatest_kept work c.loop-phase.phase c.loop-phase.best c.work_of-work.result c.loop-phase.auto.phase c.loop-phase.invariant c.work_of-work.ensures (omega (arith, w.if-best-work.false))
     ]
 
 -- all phases seen, the best is the peak

@@ -12,5 +12,5 @@ returns-then-j-count c = omega (arith, gap_early c.args.row.now c.requires c.arg
 pub returns-else-j-count : goal.returns-else-j-count
 returns-else-j-count c = omega (arith, gap_late c.args.row.now c.requires c.args.j (omega arith) (lt-leb c.args.j c.args.row.now.count c.if-j-count.false))
 
-pub overflow-sub-result-else-j-count : goal.overflow-sub-result-else-j-count
-overflow-sub-result-else-j-count c = let known = limits c.args.row.now c.requires in omega (arith, known.bounds, known.gaps)
+pub overflow_sub-result-else-j-count : goal.overflow_sub-result-else-j-count
+overflow_sub-result-else-j-count c = let known = limits c.args.row.now c.requires in omega (arith, known.bounds, known.gaps)

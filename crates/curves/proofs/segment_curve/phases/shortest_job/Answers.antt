@@ -6,8 +6,8 @@ use Rattle.curves.proofs.segment_curve.phases.shortest_job.Goals as goal
 pub loop-j-preserved : goal.loop-j-preserved
 loop-j-preserved c = let more = sum_more (λ k. get_or c.args.row.now.least k 0) c.loop-j.j in omega arith
 
-pub overflow-add-total : goal.overflow-add-total
-overflow-add-total c =
+pub overflow_add-total : goal.overflow_add-total
+overflow_add-total c =
     let x = c.args.row.now in
     let known = limits x c.requires in
     let part = least_part x (c.loop-j.j + 1) (omega arith) in

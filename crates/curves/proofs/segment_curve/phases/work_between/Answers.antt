@@ -10,7 +10,7 @@ loop-j-preserved c = (
   omega arith,
   λ n.
       let next = one_more c.args.row.now c.requires.lawful ((c.args.to - c.loop-j.j) + n) ((c.args.to - (c.loop-j.j + 1)) + n)
-      c.loop-j.j (c.loop-j.j + 1) c.loop-j.left c.saturating-sub-left.result (omega arith) (omega arith) (omega arith) in
+      c.loop-j.j (c.loop-j.j + 1) c.loop-j.left c.saturating_sub-left.result (omega arith) (omega arith) (omega arith) in
       omega (arith, c.loop-j.invariant.1 n),
 )
 

@@ -20,33 +20,33 @@ row_is rows place above ok = get_or_default rows place _ segmented_kind.blank (i
 row_lawful : (rows : List Segmented) (place above : ℕ) → lawful_question segmented_kind rows place above ≡ true → segmented_kind.lawful (row_at rows place) ≡ true
 row_lawful rows place above ok = ap segmented_kind.lawful (row_is rows place above ok) ∙ lawful_here segmented_kind rows place above ok
 
-pub all-parts-requires : goal.all-parts-requires
-all-parts-requires g c =
-    let ok : lawful_question segmented_kind c.args.rows.now c.args.place c.args.above ≡ true = sym c.is-lawful-question.ensures ∙ c.if-not-is-lawful-question.false in
+pub all_parts-requires : goal.all_parts-requires
+all_parts-requires g c =
+    let ok : lawful_question segmented_kind c.args.rows.now c.args.place c.args.above ≡ true = sym c.is_lawful_question.ensures ∙ c.if-not-is_lawful_question.false in
     some_segments (row_at c.args.rows.now c.args.place) (row_lawful c.args.rows.now c.args.place c.args.above ok)
 
-pub returns-in-err-parts : goal.returns-in-err-parts
-returns-in-err-parts g c =
+pub returns-in_err-parts : goal.returns-in_err-parts
+returns-in_err-parts g c =
     let rows = c.args.rows.now in
     let x = row_at rows c.args.place in
-    let ok : lawful_question segmented_kind rows c.args.place c.args.above ≡ true = sym c.is-lawful-question.ensures ∙ c.if-not-is-lawful-question.false in
-    let whole = ap (plus (Some (most_gaps (segments_of x)))) (sym c.in-err-parts.was ∙ c.all-parts.ensures.sum) in
-    c.from-residual.ensures ∙ ap (up_to x.deadline) whole ∙ sym (asked_is g.C.Curve.workload rows c.args.place c.args.above ok x (row_is rows c.args.place c.args.above ok))
+    let ok : lawful_question segmented_kind rows c.args.place c.args.above ≡ true = sym c.is_lawful_question.ensures ∙ c.if-not-is_lawful_question.false in
+    let whole = ap (plus (Some (most_gaps (segments_of x)))) (sym c.in_err-parts.was ∙ c.all_parts.ensures.sum) in
+    c.from_residual.ensures ∙ ap (up_to x.deadline) whole ∙ sym (asked_is g.C.Curve.workload rows c.args.place c.args.above ok x (row_is rows c.args.place c.args.above ok))
 
-pub within-deadline-requires : goal.within-deadline-requires
-within-deadline-requires g c =
+pub within_deadline-requires : goal.within_deadline-requires
+within_deadline-requires g c =
     let rows = c.args.rows.now in
     let x = row_at rows c.args.place in
-    let ok : lawful_question segmented_kind rows c.args.place c.args.above ≡ true = sym c.is-lawful-question.ensures ∙ c.if-not-is-lawful-question.false in
+    let ok : lawful_question segmented_kind rows c.args.place c.args.above ≡ true = sym c.is_lawful_question.ensures ∙ c.if-not-is_lawful_question.false in
     let limits = segmented_kind.r1 x (row_lawful rows c.args.place c.args.above ok) in
-    omega (arith, limits.room, limits.in_period, limits.period_fits, c.suspend.ensures, c.in-ok-parts.ensures.small)
+    omega (arith, limits.room, limits.in_period, limits.period_fits, c.suspend.ensures, c.in_ok-parts.ensures.small)
 
 pub returns : goal.returns
 returns g c =
     let rows = c.args.rows.now in
     let x = row_at rows c.args.place in
-    let ok : lawful_question segmented_kind rows c.args.place c.args.above ≡ true = sym c.is-lawful-question.ensures ∙ c.if-not-is-lawful-question.false in
+    let ok : lawful_question segmented_kind rows c.args.place c.args.above ≡ true = sym c.is_lawful_question.ensures ∙ c.if-not-is_lawful_question.false in
     let gaps : c.suspend.result ≡ most_gaps (segments_of x) = c.suspend.ensures in
-    let whole = ap (plus (Some (most_gaps (segments_of x)))) (sym c.in-ok-parts.was ∙ c.all-parts.ensures.sum) in
-    c.within-deadline.ensures ∙ ap (λ n. up_to x.deadline (Some (n + c.in-ok-parts.parts))) gaps ∙ ap (up_to x.deadline) whole
+    let whole = ap (plus (Some (most_gaps (segments_of x)))) (sym c.in_ok-parts.was ∙ c.all_parts.ensures.sum) in
+    c.within_deadline.ensures ∙ ap (λ n. up_to x.deadline (Some (n + c.in_ok-parts.parts))) gaps ∙ ap (up_to x.deadline) whole
     ∙ sym (asked_is g.C.Curve.workload rows c.args.place c.args.above ok x (row_is rows c.args.place c.args.above ok))

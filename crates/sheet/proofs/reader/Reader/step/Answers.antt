@@ -36,9 +36,9 @@ pub returns-in-Continues : goal.returns-in-Continues
 returns-in-Continues g c =
     record { steps = goes_at g.D-as-Draft.grammar (append_refusal g.R.Row.meaning) c.args.self.now.draft (take c.args.self.now.count c.args.rows.now) c.args.self.now.at c.args.bytes.now c.if-place-bytes.false c.in-Ok.done c.in-Ok.ensures.does _ _ c.in-Ok.ensures.leaves refl c.in-Continues.is; within = search rules; few = search rules; on = search rules; past = search rules }
 
-pub returns-in-default : goal.returns-in-default
-returns-in-default g c =
-    let put = c.in-default.ensures in
+pub returns-in_default : goal.returns-in_default
+returns-in_default g c =
+    let put = c.in_default.ensures in
     let count = c.args.self.now.count in
     let row = c.in-Completes.row in
     let room : 32 ≤ length c.args.rows.now = omega arith in
@@ -48,9 +48,9 @@ returns-in-default g c =
     let past = drop-set-lt 32 c.args.rows.now count row few in
     record { steps = enters_at g.D-as-Draft.grammar (append_refusal g.R.Row.meaning) c.args.self.now.draft (take count c.args.rows.now) c.args.self.now.at c.args.bytes.now c.if-place-bytes.false c.in-Ok.done c.in-Ok.ensures.does _ _ row c.in-Ok.ensures.leaves (ap (λ xs. take (count + 1) xs) put.1 ∙ more) c.in-Completes.is judged; within = search rules; few = omega arith; on = search rules; past = ap (λ xs. drop 32 xs) put.1 ∙ past }
 
-pub overflow-add-self : goal.overflow-add-self
-overflow-add-self g c =
+pub overflow_add-self : goal.overflow_add-self
+overflow_add-self g c =
     let count = c.args.self.now.count in
     let row = c.in-Completes.row in
-    let few : count < 32 = not_full g.R.Row.meaning c.args.rows.now count row (omega arith) c.in-default.ensures.0 in
+    let few : count < 32 = not_full g.R.Row.meaning c.args.rows.now count row (omega arith) c.in_default.ensures.0 in
     omega arith
