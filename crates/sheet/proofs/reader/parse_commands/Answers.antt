@@ -13,9 +13,9 @@ returns-in_err-step g c =
 
 pub loop-reader-preserved : goal.loop-reader-preserved
 loop-reader-preserved g c =
-    (λ o r. c.loop-reader.invariant.0 o (step_on g.Draft-as-Draft.grammar (append_refusal g.R.Row.meaning) c.loop-reader.reader.draft (take c.loop-reader.reader.count c.loop-reader.rows) c.loop-reader.reader.at (drop c.loop-reader.reader.at c.args.bytes.now) c.step.new.self.draft (take c.step.new.self.count c.step.new.rows) c.step.new.self.at (drop c.step.new.self.at c.args.bytes.now) c.in_ok-step.field-0 o c.if-not-branch.true c.in_ok-step.ensures.steps r), search rules, search rules, search rules)
+    (λ o r. c.loop-reader.invariant.0 o (step_on g.R.Draft.Draft.grammar (append_refusal g.R.Row.meaning) c.loop-reader.reader.draft (take c.loop-reader.reader.count c.loop-reader.rows) c.loop-reader.reader.at (drop c.loop-reader.reader.at c.args.bytes.now) c.step.new.self.draft (take c.step.new.self.count c.step.new.rows) c.step.new.self.at (drop c.step.new.self.at c.args.bytes.now) c.in_ok-step.field-0 o c.if-not-branch.true c.in_ok-step.ensures.steps r), search rules, search rules, search rules)
 
 pub returns : goal.returns
 returns g c =
     let table = take c.step.new.self.count c.step.new.rows in
-    record { parses = c.loop-reader.invariant.0 (accepted table) (step_ended g.Draft-as-Draft.grammar (append_refusal g.R.Row.meaning) c.loop-reader.reader.draft (take c.loop-reader.reader.count c.loop-reader.rows) c.loop-reader.reader.at (drop c.loop-reader.reader.at c.args.bytes.now) c.step.new.self.draft (take c.step.new.self.count c.step.new.rows) c.step.new.self.at (drop c.step.new.self.at c.args.bytes.now) c.in_ok-step.field-0 (accepted table) c.if-not-branch.false c.in_ok-step.ensures.steps); few = search rules; past = search rules }
+    record { parses = c.loop-reader.invariant.0 (accepted table) (step_ended g.R.Draft.Draft.grammar (append_refusal g.R.Row.meaning) c.loop-reader.reader.draft (take c.loop-reader.reader.count c.loop-reader.rows) c.loop-reader.reader.at (drop c.loop-reader.reader.at c.args.bytes.now) c.step.new.self.draft (take c.step.new.self.count c.step.new.rows) c.step.new.self.at (drop c.step.new.self.at c.args.bytes.now) c.in_ok-step.field-0 (accepted table) c.if-not-branch.false c.in_ok-step.ensures.steps); few = search rules; past = search rules }
