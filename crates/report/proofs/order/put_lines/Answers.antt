@@ -6,8 +6,8 @@ use Rattle.report.proofs.Memory.{put_none, puts_join}
 use Rattle.report.proofs.Orders.{named}
 use Rattle.report.proofs.order.put_lines.Goals as goal
 
-pub offset-bounds-rows-order : goal.offset-bounds-rows-order
-offset-bounds-rows-order g c = omega (arith, named c.args.tasks c.args.tasks c.loop-level.level c.args.order.now c.requires.ordered c.loop-level-test.true c.requires.named)
+pub offset_bounds-rows-order : goal.offset_bounds-rows-order
+offset_bounds-rows-order g c = omega (arith, named c.args.tasks c.args.tasks c.loop-level.level c.args.order.now c.requires.ordered c.loop-level-test.true c.requires.named)
 
 pub bounds-rows-order : goal.bounds-rows-order
 bounds-rows-order g c = omega (arith, named c.args.tasks c.args.tasks c.loop-level.level c.args.order.now c.requires.ordered c.loop-level-test.true c.requires.named)

@@ -16,7 +16,7 @@ returns g c =
     let whole = order_bytes kind rows order bounds tasks c.args.questions in
     record {
       reported = (
-        no_fault tasks rows order bounds c.args.memory.now c.if-rows-lt-CAPACITY.false c.if-order-lt-CAPACITY.false c.if-bounds-lt-CAPACITY.false c.if-memory-lt-REPORT-BYTES.false c.if-tasks-gt-CAPACITY.false once,
+        no_fault tasks rows order bounds c.args.memory.now c.if-rows-lt-CAPACITY.false c.if-order-lt-CAPACITY.false c.if-bounds-lt-CAPACITY.false c.if-memory-lt-REPORT_BYTES.false c.if-tasks-gt-CAPACITY.false once,
         all.place ∙ (let e : 0 + length whole ≡ length whole = omega arith in e),
         all.memory,
       );

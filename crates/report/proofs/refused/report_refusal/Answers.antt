@@ -52,6 +52,6 @@ returns c =
     let done : Puts c.args.memory.now 0 (refused_bytes f) c.put_byte.new.memory c.put_byte.result =
     subst (λ (xs : List ℕ). Puts c.args.memory.now 0 xs c.put_byte.new.memory c.put_byte.result) is all in
     record {
-      reported = (c.if-memory-lt-REPORT-BYTES.false, done.place ∙ (let e : 0 + length (refused_bytes f) ≡ length (refused_bytes f) = omega arith in e), done.memory);
+      reported = (c.if-memory-lt-REPORT_BYTES.false, done.place ∙ (let e : 0 + length (refused_bytes f) ≡ length (refused_bytes f) = omega arith in e), done.memory);
       within = omega (arith, put_within c.args.memory.now c.put_byte.new.memory (refused_bytes f) (omega arith) done.memory, done.place);
     }
