@@ -1,5 +1,5 @@
 -- Lists as sets: what the definitions of specs.Bags and `others` give. Assumes nothing.
-use Rattle.std.proofs.Common.{◌≡◌, ℕ, zero, suc, ◌+◌, ◌<◌, ◌≤◌, Bool, true, false, cond, T, eqb, ◌≢◌, ◌⊎◌, List, [], ◌∷◌, ◌++◌, map, length, sym, refl, ap, ◌∙◌, subst, inl, inr, append_assoc, arith, eqb→eq, length-append}
+use Rattle.std.proofs.Common.{◌≡◌, ℕ, suc, ◌≤◌, Bool, true, false, cond, T, eqb, ◌⊎◌, List, [], ◌∷◌, ◌++◌, map, length, sym, refl, ap, ◌∙◌, subst, inl, inr, arith, eqb→eq, length-append}
 use mathlib.Core.Bool.{false≢true}
 use mathlib.Core.List.Memᴰ
 use mathlib.Core.List.{Memᴰ}
@@ -9,7 +9,6 @@ use lib.Dec.{eqb_refl}
 use Rattle.std.proofs.lemmas.List.{map-append}
 use Rattle.model.specs.Bags.{◌∈◌, ◌~◌, Part}
 use Rattle.assign.specs.Assignment.{others}
-use Rattle.feasibility.specs.Masks.{places}
 
 -- tests
 

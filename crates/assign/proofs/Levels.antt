@@ -1,16 +1,15 @@
 -- What a stuck set is to an order, and what an order found is. Assumes nothing.
-use Rattle.std.proofs.Common.{◌≡◌, ℕ, zero, suc, ◌+◌, ◌<◌, ◌≤◌, ◌≢◌, ◌⊎◌, List, [], ◌∷◌, ◌++◌, map, length, get_or, take, Some, None, Option, sym, refl, ap, ◌∙◌, subst, inl, inr, arith, length-append, take_all, take-suc, take_at}
+use Rattle.std.proofs.Common.{◌≡◌, ℕ, zero, suc, ◌+◌, ◌<◌, ◌≤◌, ◌⊎◌, List, [], ◌∷◌, ◌++◌, map, length, get_or, take, Some, None, Option, sym, refl, ap, ◌∙◌, subst, inl, inr, arith, take-suc, take_at}
 use mathlib.Core.List.Permᴰ
 use lib.Seq.{take-append-le, get_or_at}
 use Rattle.std.proofs.lemmas.Bool.{cases_lt}
-use Rattle.std.proofs.lemmas.List.{get_or_append_left, get_or_push, length_push}
+use Rattle.std.proofs.lemmas.List.{get_or_append_left, length_push}
 use Rattle.model.specs.Bags.{◌∈◌, ◌~◌, Part}
 use Rattle.model.specs.Rows.{Kind}
 use Rattle.feasibility.specs.Tests.{Answers, TestRules}
-use Rattle.feasibility.specs.Masks.{row_of, places}
-use Rattle.assign.specs.Assignment.{others, Outcome, accepted, stuck, over, under_others, Takes, Stuck, Assigned, finished, level, empty_level, Fits, Unfit}
+use Rattle.assign.specs.Assignment.{others, Outcome, accepted, stuck, over, Takes, Stuck, Assigned, finished, level, empty_level, Fits, Unfit}
 use Rattle.assign.proofs.Outcomes.{not_both, takes_in}
-use Rattle.assign.proofs.Bags.{mem-~, length-~, map-~, snoc-~, others_front, part-~, part_all, part_map, part_empty, part_cases, part_more}
+use Rattle.assign.proofs.Bags.{map-~, snoc-~, part-~, part_all, part_map, part_empty, part_cases, part_more}
 
 -- the places that an outcome leaves
 abbrev pub left_of : Outcome → List ℕ

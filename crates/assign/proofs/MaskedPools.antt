@@ -1,15 +1,12 @@
 -- Masks as lists of places, and a question under the others of a pool. Assumes nothing.
-use Rattle.std.proofs.Common.{◌≡◌, ℕ, zero, suc, ◌+◌, ◌-◌, ◌*◌, ◌/◌, ◌%◌, ◌^◌, ◌<◌, ◌≤◌, min, Bool, true, false, cond, not, ◌&&◌, eqb, ltb, ◌≢◌, ◌⊎◌, List, [], ◌∷◌, ◌++◌, map, length, Some, None, filter, Option, sym, refl, ap, ◌∙◌, subst, inl, inr, append-nil, mod-eq_of_lt, add-one, arith, length-append}
-use native.Mathlib.Nat.{div-eq_of_lt}
-use lib.Bits.{bit_and}
-use Rattle.std.proofs.lemmas.Nat.{mod-pow-add, pow_pos, pow_below, and_mask, mod_below, shr_split}
-use Rattle.std.proofs.lemmas.Bool.{cases_Bool, cases_lt, eqb-true, eqb-false, ne_eqb, eq-eqb, lt-ltb, le-ltb, and_left, and_right}
+use Rattle.std.proofs.Common.{◌≡◌, ℕ, zero, suc, ◌-◌, ◌^◌, ◌<◌, Bool, true, false, cond, eqb, ltb, ◌≢◌, ◌⊎◌, List, [], ◌∷◌, ◌++◌, map, length, None, sym, refl, ap, ◌∙◌, inl, inr, arith}
+use Rattle.std.proofs.lemmas.Bool.{cases_Bool, eqb-true, eqb-false, lt-ltb}
 use Rattle.model.specs.Rows.{Kind}
 use Rattle.feasibility.specs.Tests.{Answers}
-use Rattle.feasibility.specs.Masks.{row_of, places, pool_of, bit_at, has, in_mask, mask_of, rows_in, askable, asked}
+use Rattle.feasibility.specs.Masks.{row_of, places, pool_of, bit_at, has, in_mask, rows_in, askable, asked}
 use Rattle.assign.specs.Assignment.{others, under_others}
 use Rattle.assign.proofs.Pools.{but, others_pool}
-use Rattle.feasibility.proofs.Bits.{bit_le, out_same, out_other, full_at}
+use Rattle.feasibility.proofs.Bits.{out_same, out_other, full_at}
 use Rattle.feasibility.proofs.Masks.{pool_suc, pool_same, has_true, has_false}
 
 pool_true : (n : ℕ) → pool_of (λ j. true) n ≡ places n

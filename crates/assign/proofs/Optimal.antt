@@ -1,12 +1,12 @@
 -- The laws of the assignment. Assumes nothing.
-use Rattle.std.proofs.Common.{◌≡◌, ℕ, ◌<◌, ◌≤◌, ◌↔◌, List, [], ◌∷◌, ◌++◌, map, length, get_or, take, sym, refl, ap, ◌∙◌, subst, arith}
+use Rattle.std.proofs.Common.{ℕ, List, map, length, sym, refl, subst, arith}
 use mathlib.Core.List.Permᴰ
 use lib.Seq.{take-length}
 use Rattle.model.specs.Bags.{◌~◌, Part}
 use Rattle.model.specs.Rows.{Kind}
 use Rattle.feasibility.specs.Tests.{Answers, TestRules}
 use Rattle.feasibility.specs.Masks.{row_of}
-use Rattle.assign.specs.Assignment.{Outcome, accepted, stuck, Stuck, Unfit}
+use Rattle.assign.specs.Assignment.{Outcome, accepted, stuck, Unfit}
 use Rattle.assign.specs.Laws.{all_places, Arranges, Laws}
 use Rattle.assign.proofs.Bags.{part-~, part_map, part_both, part_empty}
 use Rattle.assign.proofs.Outcomes.{outcome, unique, not_both}

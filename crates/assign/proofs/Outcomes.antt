@@ -1,9 +1,9 @@
 -- Each pool has exactly one outcome, whatever is answered. Assumes nothing.
-use Rattle.std.proofs.Common.{◌≡◌, ℕ, zero, suc, ◌+◌, ◌<◌, ◌≤◌, ◌≢◌, ◌⊎◌, List, [], ◌∷◌, ◌++◌, map, length, Some, None, Option, sym, refl, ap, ◌∙◌, subst, inl, inr, append_assoc, append-nil, arith}
+use Rattle.std.proofs.Common.{◌≡◌, ℕ, zero, suc, ◌+◌, ◌⊎◌, List, [], ◌∷◌, ◌++◌, length, Some, None, Option, sym, refl, ap, ◌∙◌, subst, inl, inr, append_assoc, append-nil, arith}
 use mathlib.Core.List.Memᴰ
-use mathlib.Core.List.{nil≢cons, cons≢nil, head-eq_of_cons-eq, tail-eq_of_cons-eq}
+use mathlib.Core.List.{cons≢nil, head-eq_of_cons-eq, tail-eq_of_cons-eq}
 use Rattle.model.specs.Bags.{◌∈◌, ◌~◌}
-use Rattle.assign.specs.Assignment.{others, Outcome, accepted, stuck, over, under_others, Takes, Stuck, Assigned, finished, level, empty_level}
+use Rattle.assign.specs.Assignment.{others, Outcome, accepted, stuck, over, under_others, Takes, Assigned, finished, level, empty_level}
 use Rattle.assign.proofs.Bags.{length-~, others_front}
 
 pub not_both : {A : Type 0} {o : Option A} {a : A} → o ≡ None → o ≡ Some a → ⊥

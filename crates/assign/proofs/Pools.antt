@@ -1,11 +1,10 @@
 -- What a program that searches can hold on to in its loops. Assumes nothing.
-use Rattle.std.proofs.Common.{◌≡◌, ℕ, zero, suc, ◌+◌, ◌<◌, ◌≤◌, Bool, true, false, cond, eqb, ◌≢◌, ◌⊎◌, List, [], ◌∷◌, ◌++◌, map, length, Some, None, filter, Option, sym, refl, ap, ◌∙◌, subst, inl, inr, append_assoc, append-nil, add_assoc, zero-add, arith}
+use Rattle.std.proofs.Common.{◌≡◌, ℕ, zero, suc, ◌+◌, ◌<◌, ◌≤◌, Bool, true, false, cond, eqb, ◌≢◌, ◌⊎◌, List, [], ◌∷◌, ◌++◌, length, Some, None, Option, sym, refl, ap, ◌∙◌, subst, inl, inr, append_assoc, append-nil, add_assoc, zero-add, arith}
 use mathlib.Core.List.Memᴰ
-use Rattle.std.proofs.lemmas.List.Elements.{filter-append}
-use Rattle.std.proofs.lemmas.Bool.{cases_lt, cases_Bool, eqb-true, ne_eqb, eq-eqb, cond-true, cond-false, true≢false, eqb-false}
+use Rattle.std.proofs.lemmas.Bool.{cases_lt, cases_Bool, eqb-true, ne_eqb, eqb-false}
 use Rattle.model.specs.Bags.{◌∈◌}
 use Rattle.feasibility.proofs.Masks.{pool_suc}
-use Rattle.feasibility.specs.Masks.{places, pool_of}
+use Rattle.feasibility.specs.Masks.{pool_of}
 use Rattle.assign.specs.Assignment.{others, Outcome, accepted, stuck, over, under_others, Takes, Stuck, Assigned, finished, level, empty_level, Filled, none_yet, one_more}
 
 -- the levels that are filled, lowest last, below the outcome for the rest

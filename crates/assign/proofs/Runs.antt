@@ -1,9 +1,8 @@
 -- The bounds of an order in its lawful runs. Assumes nothing.
-use Rattle.std.proofs.Common.{◌≡◌, ℕ, zero, suc, ◌<◌, ◌≤◌, List, [], ◌∷◌, map, length, get_or, take, Some, None, Option, sym, refl, ap, ◌∙◌, ap₂, arith}
+use Rattle.std.proofs.Common.{◌≡◌, ℕ, zero, suc, ◌<◌, List, [], ◌∷◌, map, length, get_or, take, Some, sym, refl, ap, ◌∙◌, ap₂, arith}
 use Rattle.std.specs.List.{slice_get}
 use Rattle.model.specs.Rows.{Kind}
-use Rattle.model.specs.Runs.{Task, Run, Level, Kept, above}
-use Rattle.model.specs.LawfulRuns.{Lawful}
+use Rattle.model.specs.Runs.{Task, Level, above}
 use Rattle.feasibility.specs.Masks.{row_of}
 use Rattle.feasibility.specs.Tests.{Answers, TestRules}
 use Rattle.feasibility.proofs.Orders.{all_kept}

@@ -1,23 +1,22 @@
 -- What a turn of the search's loops does. Assumes nothing.
-use Rattle.std.proofs.Common.{◌≡◌, ℕ, zero, suc, ◌+◌, ◌-◌, ◌*◌, ◌/◌, ◌%◌, ◌^◌, ◌<◌, ◌≤◌, Bool, true, false, cond, ◌≢◌, ◌⊎◌, List, [], ◌∷◌, ◌++◌, length, get_or, take, drop, set, Some, None, Option, sym, refl, ap, ◌∙◌, subst, inl, inr, append_assoc, append-nil, add-one, arith, length-append, take-append-drop, length-take, length-take-le, take-suc}
+use Rattle.std.proofs.Common.{◌≡◌, ℕ, zero, suc, ◌+◌, ◌-◌, ◌*◌, ◌/◌, ◌%◌, ◌^◌, ◌<◌, ◌≤◌, Bool, true, cond, ◌≢◌, ◌⊎◌, List, [], ◌∷◌, ◌++◌, length, get_or, take, drop, set, Some, None, sym, refl, ap, ◌∙◌, subst, inl, inr, append_assoc, append-nil, add-one, arith, length-append, take-append-drop, length-take-le, take-suc}
 use mathlib.Core.List.Memᴰ
-use lib.Bits.{bit_and, bit_or}
+use lib.Bits.{bit_and}
 use lib.Seq.{set_at}
-use Rattle.std.proofs.lemmas.Nat.{one_shl, and_mask}
+use Rattle.std.proofs.lemmas.Nat.{and_mask}
 use Rattle.model.specs.Rows.{Kind}
 use Rattle.feasibility.specs.Tests.{Answers}
-use Rattle.feasibility.specs.Masks.{row_of, places, bit_at, has, in_mask, mask_of, asked}
+use Rattle.feasibility.specs.Masks.{row_of, places, bit_at, has, in_mask, asked}
 use Rattle.model.specs.Bags.{◌∈◌}
-use Rattle.assign.specs.Assignment.{others, accepted, stuck, under_others, Takes, Stuck, Filled, none_yet, one_more}
+use Rattle.assign.specs.Assignment.{others, stuck, under_others, Takes, Stuck, Filled, none_yet, one_more}
 use Rattle.assign.specs.Laws.{all_places, Arranges}
 use Rattle.assign.proofs.Bags.{length-~, no_length}
-use Rattle.feasibility.proofs.Bits.{and_out, or_back, bit_le}
+use Rattle.feasibility.proofs.Bits.{and_out}
 use Rattle.feasibility.proofs.Masks.{pool_suc, has_true, has_false, in_more_yes, mask_whole}
 use Rattle.assign.proofs.Pools.{pool_at, filled_all, filled_stuck}
 use Rattle.assign.proofs.MaskedPools.{in_full, in_out, asked_others}
 use Rattle.assign.proofs.Outcomes.{takes_in}
 use Rattle.assign.specs.Search.{has_room, Accepts, Sticks}
-use Rattle.assign.specs.declared.order.Left.{Left}
 use Rattle.assign.proofs.Invariants.{Levels, Failed}
 
 -- the code's way to take a place out of a pool

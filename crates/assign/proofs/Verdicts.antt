@@ -1,12 +1,12 @@
 -- What the search's answers mean, by the laws of a test. Assumes nothing.
-use Rattle.std.proofs.Common.{◌≡◌, ℕ, ◌+◌, ◌^◌, ◌<◌, ◌≤◌, Bool, true, false, ◌↔◌, List, [], ◌∷◌, ◌++◌, length, get_or, take, drop, Some, None, Ok, Err, sym, refl, ap, ◌∙◌, subst, arith, get_or-take, take_at}
+use Rattle.std.proofs.Common.{◌≡◌, ℕ, ◌<◌, ◌≤◌, true, false, ◌↔◌, List, length, get_or, take, drop, Ok, Err, sym, refl, ap, ◌∙◌, subst, arith, get_or-take, take_at}
 use mathlib.Core.Bool.{false≢true}
 use Rattle.model.specs.Rows.{Kind}
 use Rattle.feasibility.specs.Tests.{Answers, TestRules}
-use Rattle.feasibility.specs.Masks.{row_of, places, in_mask, mask_of}
+use Rattle.feasibility.specs.Masks.{row_of}
 use Rattle.model.specs.Bags.{◌~◌, Part}
-use Rattle.assign.specs.Assignment.{Outcome, accepted, stuck, Stuck, Fits}
-use Rattle.assign.specs.Laws.{all_places, Arranges, NoneFits, Laws}
+use Rattle.assign.specs.Assignment.{Outcome, Stuck, Fits}
+use Rattle.assign.specs.Laws.{all_places, Arranges, NoneFits}
 use Rattle.assign.proofs.Bags.{length-~}
 use Rattle.assign.proofs.Outcomes.{not_both, unique}
 use Rattle.assign.proofs.Optimal.{laws}

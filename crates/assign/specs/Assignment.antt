@@ -1,6 +1,6 @@
 -- The assignment: which order is found for a table, and what is left where none is. Assumes nothing.
-use Rattle.std.specs.Prelude.{◌≡◌, ℕ, zero, suc, ◌+◌, ◌<◌, cond, ◌≢◌, List, [], ◌∷◌, ◌++◌, map, length, take, Some, None, Option, ◌==◌, slice_index}
-use Rattle.model.specs.Bags.{◌∈◌, ◌~◌, Part}
+use Rattle.std.specs.Prelude.{◌≡◌, ℕ, ◌+◌, ◌<◌, cond, ◌≢◌, List, [], ◌∷◌, ◌++◌, map, length, take, Some, None, Option, ◌==◌, slice_index}
+use Rattle.model.specs.Bags.{◌∈◌}
 
 -- the pool with the place p taken out
 abbrev pub others : ℕ → List ℕ → List ℕ

@@ -1,11 +1,11 @@
 -- The work of a phase with whole periods skipped by a division. Assumes nothing.
-use Rattle.std.proofs.Common.{◌≡◌, ℕ, zero, suc, ◌+◌, ◌-◌, ◌*◌, ◌/◌, ◌%◌, ◌<◌, ◌≤◌, min, ◌⊎◌, sym, refl, ap, ◌∙◌, inl, inr, mul-le-mul_right, mod-eq_of_lt, mul-le-mul_left, div-add-mod', arith}
+use Rattle.std.proofs.Common.{◌≡◌, ℕ, zero, suc, ◌+◌, ◌-◌, ◌*◌, ◌/◌, ◌%◌, ◌<◌, ◌≤◌, refl, ap, ◌∙◌, inl, inr, mul-le-mul_right, mod-eq_of_lt, mul-le-mul_left, div-add-mod', arith}
 use native.Mathlib.Nat.{div-eq_of_lt, div-eq-sub-div, mod-eq-sub-mod}
 use Rattle.std.proofs.lemmas.Bool.{cases_lt}
 use Rattle.model.specs.Segments.{Segments, last, more, count, all_ticks, least_gaps}
 use Rattle.curves.specs.SegmentCurve.{work_from, phase_work}
 use Rattle.curves.specs.Sequences.{worked, jobs_from, worked_same}
-use Rattle.curves.specs.Phases.{some_segments, none_left, job_gap, whole_job, are_jobs, enough_same, later_gaps}
+use Rattle.curves.specs.Phases.{job_gap, whole_job, are_jobs, enough_same, later_gaps}
 
 -- segments that have the time to finish
 worked_past : (s : Segments) (g : ℕ) (K : ℕ → ℕ) (u : ℕ) → all_ticks s + least_gaps s ≤ u → worked s g K u ≡ all_ticks s + K (u - ((all_ticks s + least_gaps s) + g))

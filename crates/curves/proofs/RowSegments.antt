@@ -1,5 +1,5 @@
 -- The segments of a segmented row by number, as the code reads them. Assumes nothing.
-use Rattle.std.proofs.Common.{◌≡◌, ℕ, zero, suc, ◌+◌, ◌-◌, ◌*◌, ◌/◌, ◌%◌, ◌<◌, ◌≤◌, min, true, false, cond, ◌&&◌, eqb, leb, ◌⊎◌, get_or, sym, refl, ap, ◌∙◌, subst, ap₂, inl, inr, mod-lt, arith}
+use Rattle.std.proofs.Common.{◌≡◌, ℕ, zero, suc, ◌+◌, ◌-◌, ◌*◌, ◌/◌, ◌%◌, ◌<◌, ◌≤◌, min, true, false, cond, eqb, leb, get_or, sym, refl, ap, ◌∙◌, subst, ap₂, inl, inr, mod-lt, arith}
 use Rattle.std.proofs.lemmas.Bool.{cases_lt, and_parts, leb-true, eq-eqb, ne_eqb, cond-true, cond-false}
 use Rattle.model.specs.Rows.{Bounds}
 use Rattle.model.specs.Segments.{Segments, count, all_ticks, least_gaps, most_gaps, segmented, segmented_lawful, lawful_ranged}

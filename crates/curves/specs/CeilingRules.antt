@@ -1,8 +1,8 @@
 -- The ceiling curve keeps the rules of curves, for every kind of row. Assumes nothing.
-use Rattle.std.specs.Prelude.{◌≡◌, ℕ, zero, suc, ◌+◌, ◌-◌, ◌*◌, ◌/◌, ◌%◌, ◌<◌, ◌≤◌, min, Bool, true, false, cond, ◌⊎◌, List, [], ◌∷◌, length, refl}
-use Rattle.std.proofs.Common.{ap, sym, ◌∙◌, le-div_iff_mul-le, div-mul-le_self}
+use Rattle.std.specs.Prelude.{◌≡◌, ℕ, zero, suc, ◌+◌, ◌-◌, ◌*◌, ◌/◌, ◌%◌, ◌≤◌, min, true, cond, ◌⊎◌, List, [], ◌∷◌, length, refl}
+use Rattle.std.proofs.Common.{ap}
 use Rattle.std.proofs.Math.Logic.{inl, inr}
-use Rattle.std.proofs.Math.Nat.{mul-le-mul_right, mul-le-mul_left, lt-div-mul-add}
+use Rattle.std.proofs.Math.Nat.{mul-le-mul_right, mul-le-mul_left}
 use native.Mathlib.Omega.{arith}
 use Rattle.std.specs.List.{AllByRecursion as All}
 use Rattle.std.proofs.lemmas.Bool.{cases_lt, cases_Bool, cond-true, cond-false}
@@ -12,7 +12,7 @@ use Rattle.model.specs.Rows.{Kind, Bounds, limit}
 use Rattle.model.specs.LawfulRuns.{Lawful, LawfulTask, NoLate}
 use Rattle.curves.specs.Curves.{CurveRules, CurveEdges}
 use Rattle.curves.specs.CeilingCurve.{ceil, ceiling, ceiling_workload}
-use Rattle.model.proofs.Marks.{Counts, rising, still}
+use Rattle.model.proofs.Marks.{rising}
 use Rattle.model.proofs.Ticks.{counts, clipped, runs_waiting}
 use Rattle.model.proofs.Work.{window}
 

@@ -1,16 +1,16 @@
 -- The segment curve keeps the rules of curves, for every way to read rows as segmented rows. Assumes nothing.
-use Rattle.std.specs.Prelude.{◌≡◌, ℕ, zero, suc, ◌+◌, ◌-◌, ◌*◌, ◌<◌, ◌≤◌, min, true, false, cond, ltb, ◌⊎◌, List, [], ◌∷◌, length, nat_le, nat_lt, refl}
+use Rattle.std.specs.Prelude.{◌≡◌, ℕ, zero, suc, ◌+◌, ◌-◌, ◌*◌, ◌<◌, ◌≤◌, min, true, false, cond, ltb, List, [], ◌∷◌, length, nat_le, nat_lt, refl}
 use Rattle.std.proofs.Common.{ap, ap₂, sym, subst, ◌∙◌, inl, inr, mul-le-mul_right, arith}
 use Rattle.std.specs.List.{AllByRecursion as All}
 use Rattle.std.proofs.lemmas.Bool.{cases_lt, cases_Bool, cond-true, cond-false, cond_both, and_parts, leb-true, ltb-true, ltb-false, lt-ltb, le-ltb}
 use Rattle.model.specs.Runs.{Job, Task, Run, ran, used, Level}
-use Rattle.model.specs.Rows.{Kind, Bounds, limit}
+use Rattle.model.specs.Rows.{Bounds, limit}
 use Rattle.model.specs.LawfulRuns.{Lawful, LawfulTask, NoLate}
 use Rattle.model.specs.Segments.{Segments, last, more, count, all_ticks, least_gaps, most_gaps, ranged, keeps_ranges, Shape, segmented, segmented_lawful, lawful_ranged}
 use Rattle.model.proofs.Ticks.{counts, clipped, runs_waiting}
 use Rattle.curves.specs.Curves.{CurveRules, CurveEdges}
 use Rattle.curves.specs.SegmentCurve.{work_from, phase_work, Peak, greatest, row_work, segment_peak, segment_workload, PeakOfPhases}
-use Rattle.curves.specs.Sequences.{worked, jobs_from, Lipschitz, lipschitz_worked, lipschitz_jobs, top}
+use Rattle.curves.specs.Sequences.{worked, jobs_from, Lipschitz, lipschitz_worked, lipschitz_jobs}
 use Rattle.curves.specs.SegmentWindows.{Fits, kept_fits, segment_window}
 use Rattle.curves.specs.Phases.{some_segments, Tail, tail_self, top_below, none_left, lipschitz_work, work_more, job_gap, phase_is, enough_same, first_gap, short_gaps}
 

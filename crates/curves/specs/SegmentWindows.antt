@@ -1,10 +1,10 @@
 -- What a task with such segments runs in a window, whatever gaps are laid between its jobs, if they are no longer than runs allow. Assumes nothing.
-use Rattle.std.specs.Prelude.{◌≡◌, ℕ, zero, suc, ◌+◌, ◌-◌, ◌<◌, ◌≤◌, min, true, false, ◌&&◌, ◌⊎◌, List, [], ◌∷◌, nat_le, refl}
+use Rattle.std.specs.Prelude.{◌≡◌, ℕ, zero, suc, ◌+◌, ◌-◌, ◌<◌, ◌≤◌, min, true, false, ◌&&◌, List, [], ◌∷◌, nat_le, refl}
 use Rattle.std.proofs.Common.{inl, inr, arith}
 use Rattle.std.specs.List.{AllByRecursion as All}
 use Rattle.std.proofs.lemmas.Bool.{cases_lt, leb-true, and_parts}
 use Rattle.model.specs.Patterns.{Pattern, final, step}
-use Rattle.model.specs.Runs.{Job, Done, Ends, Unmet, Waits, start, JobsWait, Spaced}
+use Rattle.model.specs.Runs.{Job, Done, Ends, Unmet, start, JobsWait, Spaced}
 use Rattle.model.specs.Segments.{Segments, last, more, all_ticks, least_gaps, keeps_ranges}
 use Rattle.model.proofs.Marks.{Counts, rising, slowly, still, reach, ends_after, ends_once, ends_by}
 use Rattle.model.proofs.Work.{Active, active_after, active_rest, first_active, rest_waits, unstarted, Finished, finished_rest}

@@ -21,10 +21,15 @@ fn peaks(rt: HostRuntime) {
     assert_eq!(rt; SegmentCurve.peak(&ROW, 10), (4, 1));
 }
 
+// It has no contract, so that no proof counts the ticks of a long window one by one.
+fn segment_ticks(window: u32) -> u32 {
+    SegmentCurve.ticks(&ROW, window)
+}
+
 #[test]
 fn letters_and_ticks(rt: HostRuntime) {
     assert_eq!(rt; Ceiling.ticks(&ROW, 2), 2);
-    assert_eq!(rt; SegmentCurve.ticks(&ROW, 4_000_000), 250_000);
+    assert_eq!(rt; segment_ticks(4_000_000), 250_000);
     assert_eq!(rt; <SegmentCurve as Curve<Segmented>>::LETTER, b'C');
     assert_eq!(rt; <Ceiling as Curve<Segmented>>::LETTER, b'J');
 }

@@ -1,5 +1,5 @@
 -- One bit of a number: taken out and put back. Assumes nothing.
-use Rattle.std.proofs.Common.{◌≡◌, ℕ, ◌+◌, ◌-◌, ◌*◌, ◌/◌, ◌%◌, ◌^◌, ◌<◌, ◌≤◌, ◌≢◌, ◌⊎◌, sym, ap, ◌∙◌, ⊎_elim, mod-eq_of_lt, add-mul, one-mul, arith}
+use Rattle.std.proofs.Common.{◌≡◌, ℕ, ◌+◌, ◌-◌, ◌*◌, ◌/◌, ◌%◌, ◌^◌, ◌<◌, ◌≤◌, ◌≢◌, sym, ap, ◌∙◌, ⊎_elim, mod-eq_of_lt, add-mul, one-mul, arith}
 use native.Mathlib.Nat.{div-eq_of_lt}
 use lib.Bits.{bit_and, bit_or, bit_xor, and_block, or_block, or_zero_r, and_zero_r, xor_zero_r, and_high, xor_add_and, or_shifted}
 use Rattle.std.proofs.lemmas.Nat.{and_mask, xor_shr, xor_mod, pow-add, pow_pos, pow_below, shl-shr, shr_split, mod_below, shr_below, shr_high}

@@ -4,10 +4,10 @@ use Rattle.std.specs.List.{slice_get, AllByRecursion as All}
 use Rattle.std.proofs.lemmas.Bool.{cases_lt}
 use Rattle.std.proofs.lemmas.Option.{slice_get_past}
 use Rattle.model.specs.Patterns.{Pattern, final, step}
-use Rattle.model.specs.Runs.{Job, Task, Run, hit, ran, Done, Ends, Unmet, Waits, start, JobsWait, Level, Waiting}
+use Rattle.model.specs.Runs.{Job, Task, Run, hit, ran, Done, Ends, Unmet, Waits, start, JobsWait, Waiting}
 use Rattle.model.specs.Rows.{Kind}
 use Rattle.model.specs.LawfulRuns.{LawfulTask, Lawful}
-use Rattle.model.proofs.Marks.{Counts, rising, done_once, done_by, ends_once, ends_by, ends_after, waits_after}
+use Rattle.model.proofs.Marks.{Counts, done_once, done_by, ends_once, ends_by, ends_after, waits_after}
 use Rattle.model.proofs.Ticks.{some_same, none_some, nth_here, nth_inside, counts}
 use Rattle.model.proofs.Work.{jobs_after}
 

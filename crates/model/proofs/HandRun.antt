@@ -1,9 +1,9 @@
 -- The run that was worked out by hand is lawful, and one of its jobs is late. Assumes nothing.
-use Rattle.std.proofs.Common.{◌≡◌, ℕ, zero, suc, ◌+◌, ◌<◌, ◌≤◌, ◌⊎◌, List, [], ◌∷◌, length, Some, None, Option, sym, refl, subst, inl, inr, arith}
+use Rattle.std.proofs.Common.{◌≡◌, ℕ, zero, suc, ◌+◌, ◌<◌, ◌≤◌, Some, None, Option, sym, refl, subst, inl, inr, arith}
 use Rattle.std.specs.List.{slice_get}
-use Rattle.model.specs.Patterns.{Pattern, final, step}
-use Rattle.model.specs.Runs.{Job, Task, Run, ran, Done, Unmet, Waits, JobsWait, JobEnds, Level, Waiting}
-use Rattle.model.specs.LawfulRuns.{LawfulTask, Lawful, NoLate}
+use Rattle.model.specs.Patterns.{final, step}
+use Rattle.model.specs.Runs.{Job, Task, ran, Done, Unmet, Waits, JobsWait, JobEnds, Level, Waiting}
+use Rattle.model.specs.LawfulRuns.{LawfulTask, NoLate}
 use Rattle.model.specs.WholeRows.{whole_kind}
 use Rattle.model.specs.RunLaws.{Late}
 use Rattle.model.specs.WorkedRun.{upper, lower, worked_run, WorkedRun}

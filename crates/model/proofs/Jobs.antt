@@ -1,5 +1,5 @@
 -- Jobs in a row that are not held up by levels below: each is finished one bound after its release. Assumes nothing.
-use Rattle.std.proofs.Common.{◌≡◌, ℕ, zero, suc, ◌+◌, ◌-◌, ◌<◌, ◌≤◌, max, ◌⊎◌, List, [], ◌∷◌, Some, None, refl, ap, inl, inr, arith}
+use Rattle.std.proofs.Common.{◌≡◌, ℕ, zero, suc, ◌+◌, ◌<◌, ◌≤◌, List, [], ◌∷◌, Some, None, refl, ap, inl, inr, arith}
 use Rattle.std.specs.List.{slice_get, AllByRecursion as All}
 use Rattle.model.specs.Patterns.{Pattern, costs, suspensions}
 use Rattle.model.specs.Runs.{Job, Ends, Waits, start, JobEnds, JobsWait, Spaced}

@@ -1,12 +1,10 @@
 -- Whether a job has finished by a moment is decided, and no job is late exactly if each is finished in time. Assumes nothing.
-use Rattle.std.proofs.Common.{◌≡◌, ℕ, zero, suc, ◌+◌, ◌<◌, ◌≤◌, ◌⊎◌, ◌↔◌, List, [], ◌∷◌, Some, subst, inl, inr, arith}
-use Rattle.std.specs.List.{slice_get}
-use Rattle.model.specs.Rows.{Kind}
-use Rattle.model.specs.Runs.{Job, Task, Run, ran, Ends, start, JobEnds}
+use Rattle.std.proofs.Common.{◌≡◌, ℕ, zero, suc, ◌+◌, ◌<◌, ◌≤◌, ◌⊎◌, List, [], ◌∷◌, subst, inl, inr, arith}
+use Rattle.model.specs.Runs.{Job, ran, start, JobEnds}
 use Rattle.model.specs.LawfulRuns.{NoLate}
 use Rattle.model.specs.RunLaws.{Late, LateJobs}
 use Rattle.model.proofs.Marks.{Counts, ends_after, ends_once, ends_by}
-use Rattle.model.proofs.Ticks.{counts, some_same}
+use Rattle.model.proofs.Ticks.{counts}
 
 module _ (f : ℕ → ℕ) (c : Counts f) where
   job_ends_after : (jobs : List Job) (free n m : ℕ) → JobEnds f free jobs n m → free ≤ m

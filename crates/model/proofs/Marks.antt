@@ -1,5 +1,5 @@
 -- What `Done`, `Ends` and `Waits` say of a count of ticks that grows by at most one a tick. Assumes nothing.
-use Rattle.std.proofs.Common.{◌≡◌, ℕ, zero, suc, ◌+◌, ◌-◌, ◌<◌, ◌≤◌, ◌⊎◌, refl, subst, inl, inr, arith}
+use Rattle.std.proofs.Common.{◌≡◌, ℕ, zero, suc, ◌+◌, ◌-◌, ◌<◌, ◌≤◌, ◌⊎◌, subst, inl, inr, arith}
 use Rattle.std.proofs.lemmas.Bool.{cases_lt}
 use Rattle.model.specs.Patterns.{Pattern, final, step, costs, suspensions}
 use Rattle.model.specs.Runs.{Done, Ends, Unmet, Waits}

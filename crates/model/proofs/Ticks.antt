@@ -1,10 +1,10 @@
 -- The ticks that levels run: one level's, and those of the first k together. Assumes nothing.
-use Rattle.std.proofs.Common.{◌≡◌, ℕ, zero, suc, ◌+◌, ◌-◌, ◌<◌, ◌≤◌, Bool, true, false, cond, eqb, ◌⊎◌, List, [], ◌∷◌, map, length, take, Some, None, sum_by, Option, sym, refl, ap, ◌∙◌, subst, inl, inr, add-zero, add-suc, arith}
+use Rattle.std.proofs.Common.{◌≡◌, ℕ, zero, suc, ◌+◌, ◌-◌, ◌<◌, ◌≤◌, true, false, cond, eqb, List, [], ◌∷◌, map, length, take, Some, None, sum_by, Option, sym, refl, ap, ◌∙◌, subst, inl, inr, add-suc, arith}
 use Rattle.std.specs.List.{slice_get}
 use Rattle.std.proofs.lemmas.List.Sums.{sum_by-cons}
 use Rattle.std.proofs.lemmas.Option.{slice_get_past}
-use Rattle.std.proofs.lemmas.Bool.{cases_lt, cases_eq, cases_Bool, eqb-true, eq-eqb, ne_eqb}
-use Rattle.model.specs.Runs.{Task, Run, sum_to, hit, ran, used, JobsWait, Level, Waiting}
+use Rattle.std.proofs.lemmas.Bool.{cases_lt, cases_eq, eq-eqb, ne_eqb}
+use Rattle.model.specs.Runs.{Task, Run, sum_to, hit, ran, used, JobsWait, Level}
 use Rattle.model.specs.Rows.{Kind}
 use Rattle.model.specs.LawfulRuns.{Lawful}
 use Rattle.model.specs.Runs.{above}

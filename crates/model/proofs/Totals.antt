@@ -1,5 +1,5 @@
 -- The totals of a segmented row as sums over places. Assumes nothing.
-use Rattle.std.proofs.Common.{◌≡◌, ℕ, zero, suc, ◌+◌, ◌-◌, ◌<◌, ◌≤◌, cond, ltb, ◌⊎◌, get_or, refl, ap, inl, inr, arith}
+use Rattle.std.proofs.Common.{◌≡◌, ℕ, zero, suc, ◌+◌, ◌-◌, ltb, get_or, ap, inl, inr, arith}
 use Rattle.std.proofs.lemmas.Bool.{cases_lt, cond-false, le-ltb}
 use Rattle.model.specs.Segments.{all_ticks, most_gaps}
 use Rattle.model.specs.SegmentedRows.{segment_cost, suspension_most, segments_from, segments_of}

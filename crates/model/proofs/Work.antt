@@ -1,9 +1,9 @@
 -- A task that runs only while it waits: how much it runs in a window, by its costs and the spacing of its jobs. Assumes nothing.
-use Rattle.std.proofs.Common.{◌≡◌, ℕ, zero, suc, ◌+◌, ◌-◌, ◌*◌, ◌<◌, ◌≤◌, max, ◌⊎◌, List, [], ◌∷◌, Some, None, sym, refl, subst, inl, inr, arith}
+use Rattle.std.proofs.Common.{◌≡◌, ℕ, zero, suc, ◌+◌, ◌-◌, ◌*◌, ◌<◌, ◌≤◌, ◌⊎◌, List, [], ◌∷◌, Some, refl, subst, inl, inr, arith}
 use Rattle.std.specs.List.{slice_get, AllByRecursion as All}
 use Rattle.std.proofs.lemmas.Bool.{cases_lt}
 use Rattle.model.specs.Patterns.{Pattern, final, step, costs}
-use Rattle.model.specs.Runs.{Job, Done, Ends, Unmet, Waits, start, JobEnds, JobsWait, Spaced}
+use Rattle.model.specs.Runs.{Job, Done, Ends, Waits, start, JobEnds, JobsWait, Spaced}
 use Rattle.model.proofs.Marks.{Counts, rising, slowly, still, reach, done_once, ends_after, ends_once, waits_after}
 
 module _ (f : ℕ → ℕ) (c : Counts f) where

@@ -1,5 +1,5 @@
 -- A run of two tasks, worked out by hand. Assumes nothing.
-use Rattle.std.specs.Prelude.{ℕ, List, [], ◌∷◌, Some, None}
+use Rattle.std.specs.Prelude.{[], ◌∷◌, Some, None}
 use Rattle.model.specs.Patterns.{final, step}
 use Rattle.model.specs.Runs.{Task, Run, ran, JobEnds}
 use Rattle.model.specs.LawfulRuns.{Lawful, NoLate}

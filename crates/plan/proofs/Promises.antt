@@ -10,7 +10,7 @@ use Rattle.model.specs.Runs.{Task, Run, Level, above}
 use Rattle.feasibility.specs.Tests.{Answers, TestRules}
 use Rattle.feasibility.specs.Masks.{places, row_of}
 use Rattle.feasibility.proofs.Orders.{all_kept}
-use Rattle.assign.specs.Assignment.{accepted, Fits}
+use Rattle.assign.specs.Assignment.{Fits}
 use Rattle.assign.specs.Laws.{all_places, NoneFits}
 use Rattle.assign.proofs.Levels.{found}
 use Rattle.assign.proofs.Optimal.{laws}

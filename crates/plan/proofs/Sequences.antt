@@ -2,7 +2,7 @@
 use Rattle.std.proofs.Common.{◌≡◌, ℕ, ◌-◌, ◌<◌, ◌≤◌, ltb, List, length, get_or, take, refl, ap, ◌∙◌, arith}
 use Rattle.std.proofs.lemmas.List.{get_or-take, length-take-le}
 use Rattle.std.proofs.lemmas.Bool.{or_from, le-ltb, lt-leb}
-use Rattle.model.specs.Bags.{◌∈◌, ◌~◌}
+use Rattle.model.specs.Bags.{◌∈◌}
 use Rattle.model.specs.Rows.{Kind}
 use Rattle.feasibility.specs.Tests.{Answers, TestRules}
 use Rattle.feasibility.specs.Masks.{places, row_of}

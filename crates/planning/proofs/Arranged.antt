@@ -1,5 +1,5 @@
 -- The report of a plan that was arranged, or could not be. Assumes nothing.
-use Rattle.std.proofs.Common.{◌≡◌, ℕ, ◌+◌, ◌-◌, ◌<◌, ◌≤◌, Bool, true, false, ◌||◌, ltb, List, ◌++◌, length, take, drop, replicate, Result, sym, refl, ap, ◌∙◌, subst, append_assoc, arith}
+use Rattle.std.proofs.Common.{◌≡◌, ℕ, ◌-◌, ◌≤◌, false, ◌||◌, ltb, List, ◌++◌, length, take, drop, replicate, Result, sym, ap, ◌∙◌, subst, append_assoc, arith}
 use Rattle.std.proofs.lemmas.List.{length-take-le}
 use Rattle.std.proofs.lemmas.Bool.{or_parts, or_from, ltb-false, le-ltb}
 use Rattle.model.specs.Rows.{Kind}
@@ -14,12 +14,12 @@ use Rattle.assign.proofs.Optimal.{laws}
 use Rattle.table.specs.declared.fault.Fault.{Fault}
 use Rattle.table.specs.Tables.{LawfulTable, written}
 use Rattle.plan.specs.States.{opened, arranged, done, refused_beside}
-use Rattle.plan.specs.Calls.{Arrange, given, none_fits, not_arranged, Passed, Met, some_short, arrange_checks}
+use Rattle.plan.specs.Calls.{Arrange, given, none_fits, not_arranged, some_short, arrange_checks}
 use Rattle.plan.proofs.Rows.{lawful_passes}
 use Rattle.plan.proofs.Checks.{not_met}
 use Rattle.plan.proofs.Memories.{written_length}
 use Rattle.report.specs.Reports.{OrderReported, Writes, order_bytes, refused_bytes}
-use Rattle.planning.specs.Planned.{ReportsArranged, outcome_report}
+use Rattle.planning.specs.Planned.{ReportsArranged}
 use Rattle.planning.proofs.Reported.{order_written}
 
 -- memories that are not short

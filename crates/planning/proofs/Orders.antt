@@ -1,5 +1,5 @@
 -- An order that the assignment gives, as the report needs it. Assumes nothing.
-use Rattle.std.proofs.Common.{◌≡◌, ℕ, zero, suc, ◌+◌, ◌<◌, ◌≤◌, Bool, true, false, cond, not, ◌&&◌, ◌||◌, eqb, ltb, ◌⊎◌, List, [], ◌∷◌, ◌++◌, length, get_or, take, sum_by, sym, refl, ap, ◌∙◌, inl, inr, arith}
+use Rattle.std.proofs.Common.{◌≡◌, ℕ, zero, suc, ◌<◌, ◌≤◌, true, false, cond, eqb, List, [], ◌∷◌, ◌++◌, length, get_or, take, sum_by, sym, refl, inl, inr, arith}
 use mathlib.Core.List.Memᴰ
 use Rattle.std.proofs.lemmas.List.Sums.{sum_by-cons, sum_by-append}
 use Rattle.std.proofs.lemmas.List.{get_or_append_left, get_or-take}
@@ -9,7 +9,7 @@ use Rattle.model.specs.Rows.{Kind}
 use Rattle.feasibility.specs.Masks.{places}
 use Rattle.feasibility.specs.Above.{sum_reordered}
 use Rattle.assign.proofs.Bags.{mem-~}
-use Rattle.report.specs.Reports.{occurs, each_once, order_head, order_line, order_lines, order_bytes, row_at}
+use Rattle.report.specs.Reports.{occurs, each_once, order_lines}
 
 -- how often a place stands in a list
 abbrev hit : ℕ → ℕ → ℕ

@@ -1,7 +1,7 @@
 -- The report of an order that the assignment gives. Assumes nothing.
-use Rattle.std.proofs.Common.{◌≡◌, ℕ, ◌+◌, ◌<◌, ◌≤◌, Bool, true, false, cond, ◌&&◌, leb, ◌⊎◌, List, ◌++◌, length, get_or, take, Some, None, Ok, Err, Option, Result, sym, refl, ap, ◌∙◌, inl, inr, arith}
+use Rattle.std.proofs.Common.{◌≡◌, ℕ, ◌<◌, ◌≤◌, Bool, true, false, cond, leb, List, ◌++◌, length, get_or, take, Some, None, Ok, Err, Result, sym, refl, ap, ◌∙◌, arith}
 use Rattle.std.proofs.lemmas.List.{take_all, take_at}
-use Rattle.std.proofs.lemmas.Bool.{cases_Bool, le-leb, leb-true}
+use Rattle.std.proofs.lemmas.Bool.{le-leb, leb-true}
 use Rattle.model.specs.Bags.{◌~◌}
 use Rattle.model.specs.Rows.{Kind}
 use Rattle.feasibility.specs.Masks.{places}
@@ -10,7 +10,7 @@ use Rattle.assign.proofs.Steps.{length_places}
 use Rattle.table.specs.declared.fault.Fault.{Fault}
 use Rattle.table.specs.declared.refusal.Refusal.TheVariants.{ShortMemory}
 use Rattle.report.specs.Memory.{with_bytes}
-use Rattle.report.specs.Reports.{each_once, report_fault, order_bytes, order_head, order_lines, order_fault, OrderReported, Writes}
+use Rattle.report.specs.Reports.{each_once, report_fault, order_bytes, order_head, order_fault, OrderReported, Writes}
 use Rattle.report.proofs.Orders.{named}
 use Rattle.planning.proofs.Orders.{names_once, same_lines}
 

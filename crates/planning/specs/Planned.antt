@@ -4,7 +4,6 @@ use Rattle.model.specs.Rows.{Kind}
 use Rattle.model.specs.SegmentedRows.{segmented_shape, segmented_kind}
 use Rattle.model.specs.WholeRows.{whole_kind}
 use Rattle.model.specs.declared.segmented.Segmented.{Segmented}
-use Rattle.model.specs.declared.whole.Whole.{Whole}
 use Rattle.curves.specs.CeilingCurve.{ceiling_workload}
 use Rattle.curves.specs.SegmentCurve.{segment_workload}
 use Rattle.feasibility.specs.Tests.{Answers}
@@ -17,7 +16,7 @@ use Rattle.table.specs.declared.fault.Fault.{Fault}
 use Rattle.table.specs.declared.fault.Fault.TheVariants.{Assignment}
 use Rattle.table.specs.Tables.{append_refusal}
 use Rattle.sheet.specs.Language.{Grammar}
-use Rattle.sheet.specs.Sheets.{Verdict, good, bad, Sheet}
+use Rattle.sheet.specs.Sheets.{good, bad, Sheet}
 use Rattle.sheet.specs.Bytes.{segmented_byte, whole_byte}
 use Rattle.sheet.specs.SegmentedSheets.{segmented_grammar, segmented_letters}
 use Rattle.sheet.specs.WholeSheets.{whole_grammar, whole_letters}

@@ -15,7 +15,7 @@ use Rattle.sheet.specs.Bytes.{end_byte, segment_byte, task_end_byte}
 use Rattle.sheet.specs.SegmentedSheets.{segmented_grammar, segmented_takes}
 use Rattle.sheet.specs.WholeSheets.{whole_grammar}
 use Rattle.sheet.specs.Cuts.{Cut, CutSheet, before_kind, before_letter, in_commands, CutIsCut}
-use Rattle.sheet.proofs.Reached.{Reached, reached, reads}
+use Rattle.sheet.proofs.Reached.{reached, reads}
 
 -- some command is allowed in every state
 pub record Offered {S R : Type 0} (g : Grammar S R) (s : S) : Type 0 where

@@ -1,11 +1,11 @@
 -- The row that segments make of an opened one. Assumes nothing.
-use Rattle.std.proofs.Common.{◌≡◌, ℕ, suc, ◌+◌, ◌-◌, ◌<◌, ◌≤◌, List, [], ◌∷◌, ◌++◌, length, set, replicate, sym, refl, ap, ◌∙◌, subst, arith}
+use Rattle.std.proofs.Common.{◌≡◌, ℕ, suc, ◌+◌, ◌-◌, ◌<◌, ◌≤◌, List, [], ◌∷◌, ◌++◌, length, set, replicate, sym, refl, ap, ◌∙◌, arith}
 use Rattle.std.proofs.lemmas.List.{append_assoc, append-nil, length_push, set_at}
 use Rattle.model.specs.declared.segmented.Segmented.{Segmented}
 use Rattle.model.specs.Segments.{Segments, last, more, count}
 use Rattle.sheet.specs.declared.segmented.SegmentedDraft.{SegmentedDraft}
 use Rattle.sheet.specs.declared.segmented.Stage.{Stage}
-use Rattle.sheet.specs.declared.segmented.Stage.TheVariants.{BetweenTasks, BeforeSegment, AfterSegment}
+use Rattle.sheet.specs.declared.segmented.Stage.TheVariants.{BeforeSegment, AfterSegment}
 use Rattle.sheet.specs.SegmentedSheets.{opened, with_segment, with_suspension}
 use Rattle.sheet.specs.SegmentedTasks.{costs_of, least_of, most_of, padded, row_of}
 

@@ -1,11 +1,11 @@
 -- Rows after a table, each fit for its place, are the rows of a lawful table. Assumes nothing.
-use Rattle.std.proofs.Common.{◌≡◌, ℕ, ◌+◌, ◌<◌, ◌≤◌, Bool, true, false, cond, leb, List, [], ◌∷◌, ◌++◌, length, get_or, Some, None, Option, sym, refl, ap, ◌∙◌, subst, inl, inr, arith}
+use Rattle.std.proofs.Common.{◌≡◌, ℕ, ◌<◌, ◌≤◌, Bool, true, false, cond, leb, List, [], ◌∷◌, ◌++◌, length, get_or, Some, None, Option, sym, refl, ap, ◌∙◌, subst, arith}
 use Rattle.std.proofs.lemmas.List.{append_assoc, append-nil, length-append, length_push, get_or_at, get_or_append_left}
-use Rattle.std.proofs.lemmas.Bool.{cases_Bool, leb-false, lt-leb, cond-true, cond-false}
+use Rattle.std.proofs.lemmas.Bool.{leb-false, lt-leb}
 use Rattle.model.specs.Rows.{Kind}
 use Rattle.table.specs.declared.refusal.Refusal.{Refusal}
 use Rattle.table.specs.declared.refusal.Refusal.TheVariants.{TableFull, RowUnlawful, IdTaken}
-use Rattle.table.specs.Tables.{append_refusal, row_refusal, has_id, LawfulTable}
+use Rattle.table.specs.Tables.{append_refusal, has_id, LawfulTable}
 use Rattle.table.proofs.Judges.{lawful_none, lawful_push}
 use Rattle.table.proofs.Ids.{none_at}
 use Rattle.sheet.specs.Bytes.{end_byte}

@@ -6,21 +6,21 @@ use Rattle.model.specs.SegmentedRows.{segmented_kind}
 use Rattle.table.specs.Faults.{too_many_segments_at}
 use Rattle.table.specs.Tables.{append_refusal}
 use Rattle.sheet.specs.declared.command.Effect.{Effect}
-use Rattle.sheet.specs.declared.command.Effect.TheVariants.{Continues, Completes, Ends, TooManySegments}
+use Rattle.sheet.specs.declared.command.Effect.TheVariants.{Continues, Completes, TooManySegments}
 use Rattle.sheet.specs.declared.segmented.SegmentedDraft.{SegmentedDraft}
 use Rattle.sheet.specs.declared.segmented.Stage.{Stage}
 use Rattle.sheet.specs.declared.segmented.Stage.TheVariants.{BetweenTasks, BeforeSegment, AfterSegment}
 use Rattle.sheet.specs.Bytes.{suspension_byte, suspension_short_byte}
 use Rattle.sheet.specs.Cuts.{Commands, no_command, continuing, completing}
-use Rattle.sheet.specs.Language.{Command, stops, Parses, Step, ninth, refused}
-use Rattle.sheet.specs.NinthSegments.{NinthSegment, NinthSheet, TooManyIsNinth}
+use Rattle.sheet.specs.Language.{stops, Parses, Step, ninth, refused}
+use Rattle.sheet.specs.NinthSegments.{NinthSheet, TooManyIsNinth}
 use Rattle.sheet.specs.SegmentedSheets.{segmented_grammar, segmented_effect, segmented_next}
 use Rattle.sheet.specs.SegmentedTasks.{Suspension, range, equal}
 use Rattle.sheet.specs.Sheets.{Sheet, bad, body_refused}
 use Rattle.sheet.specs.Spelling.{four}
 use Rattle.sheet.proofs.Filled.{drafted}
 use Rattle.sheet.proofs.Lengths.{Long, nil, cons, long_of}
-use Rattle.sheet.proofs.Reached.{Reached, reached, reads}
+use Rattle.sheet.proofs.Reached.{reached, reads}
 use Rattle.sheet.proofs.Views.{View, open_view, short_view, end_view, segment_view, range_view, equal_view, task_end_view, view}
 
 -- how many segments have been read: fewer than eight before a segment, eight at most after one

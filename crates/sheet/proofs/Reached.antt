@@ -3,7 +3,7 @@ use Rattle.std.proofs.Common.{◌≡◌, ℕ, ◌+◌, List, [], ◌∷◌, ◌+
 use Rattle.std.proofs.lemmas.List.{append_assoc, length-append}
 use Rattle.model.specs.Rows.{Kind}
 use Rattle.table.specs.Tables.{append_refusal}
-use Rattle.sheet.specs.Language.{Grammar, Outcome, stops, Command, Parses, stop, move, Step, goes, enters}
+use Rattle.sheet.specs.Language.{Grammar, Outcome, stops, Parses, stop, move, Step, goes, enters}
 use Rattle.sheet.specs.Cuts.{Commands, no_command, continuing, completing}
 
 module _ {S R : Type 0} (g : Grammar S R) (kind : Kind R) where

@@ -1,5 +1,5 @@
 -- Accepted sheets of segmented rows are written down as they should be. Assumes nothing.
-use Rattle.std.proofs.Common.{◌≡◌, ℕ, ◌+◌, ◌*◌, ◌<◌, ◌≤◌, Bool, true, false, cond, leb, List, [], ◌∷◌, ◌++◌, length, Some, None, Option, sym, refl, ap, ◌∙◌, subst, arith}
+use Rattle.std.proofs.Common.{◌≡◌, ℕ, ◌+◌, ◌*◌, ◌<◌, ◌≤◌, Bool, true, false, cond, leb, List, [], ◌∷◌, ◌++◌, length, None, Option, sym, refl, ap, ◌∙◌, subst, arith}
 use Rattle.std.proofs.lemmas.List.{append_assoc}
 use Rattle.std.proofs.lemmas.Bool.{lt-leb, leb-false}
 use Rattle.model.specs.declared.segmented.Segmented.{Segmented}
@@ -10,10 +10,10 @@ use Rattle.sheet.specs.declared.command.Effect.TheVariants.{Continues, Completes
 use Rattle.sheet.specs.declared.segmented.SegmentedDraft.{SegmentedDraft}
 use Rattle.sheet.specs.declared.segmented.Stage.{Stage}
 use Rattle.sheet.specs.declared.segmented.Stage.TheVariants.{BetweenTasks, BeforeSegment, AfterSegment}
-use Rattle.sheet.specs.Bytes.{open_byte, open_short_byte, end_byte, segment_byte, suspension_byte, suspension_short_byte, task_end_byte}
-use Rattle.sheet.specs.Language.{Parses, stop, move, Step, goes, enters, ends, accepted}
+use Rattle.sheet.specs.Bytes.{segment_byte, suspension_byte, suspension_short_byte, task_end_byte}
+use Rattle.sheet.specs.Language.{Parses, stop, move, goes, enters, ends, accepted}
 use Rattle.sheet.specs.Spelling.{Four, two, four}
-use Rattle.sheet.specs.SegmentedSheets.{segmented_grammar, segmented_takes, segmented_effect, segmented_next, opened}
+use Rattle.sheet.specs.SegmentedSheets.{segmented_grammar, segmented_effect, segmented_next, opened}
 use Rattle.sheet.specs.SegmentedTasks.{Opening, long, short, Suspension, range, equal, Body, final, next, row_of, SegmentedTask, task}
 use Rattle.sheet.proofs.Follows.{Follows, end, row}
 use Rattle.sheet.proofs.Lengths.{Long, nil, cons, long_of}

@@ -1,12 +1,12 @@
 -- Whole sheets: one verdict each. Assumes nothing.
-use Rattle.std.proofs.Common.{◌≡◌, ℕ, zero, suc, ◌+◌, ◌<◌, ◌≤◌, Bool, true, false, cond, eqb, List, [], ◌∷◌, ◌++◌, length, Option, sym, refl, ap, ◌∙◌, subst, arith}
-use Rattle.std.proofs.lemmas.List.{append_assoc, append-nil, length-append}
+use Rattle.std.proofs.Common.{◌≡◌, ℕ, ◌+◌, Bool, true, false, cond, eqb, List, [], ◌∷◌, ◌++◌, length, Option, sym, refl, ap, ◌∙◌, arith}
+use Rattle.std.proofs.lemmas.List.{append_assoc, length-append}
 use Rattle.std.proofs.lemmas.Bool.{eq-eqb, ne_eqb, eqb-true, eqb-false}
 use Rattle.table.specs.declared.refusal.Refusal.{Refusal}
 use Rattle.table.specs.Faults.{not_allowed_at, cut_at, bytes_after_at}
-use Rattle.sheet.specs.Language.{Grammar, Outcome, accepted, refused, Parses, stop, move, Command, Step, goes, enters, ends, trailing}
+use Rattle.sheet.specs.Language.{Grammar, Outcome, accepted, refused, Parses, stop, move, Command, goes, enters, ends, trailing}
 use Rattle.sheet.specs.Sheets.{Verdict, good, bad, Sheet, no_kind, other_kind, no_letter, other_letter, body, body_refused, OneVerdict, NothingFollows}
-use Rattle.sheet.proofs.Total.{one_outcome, same}
+use Rattle.sheet.proofs.Total.{one_outcome}
 
 module _ {S R : Type 0} (g : Grammar S R) (j : List R → R → Option Refusal) (kind : ℕ) (letters : ℕ → Bool) where
   abbrev of : ℕ → Outcome R → Verdict R

@@ -1,17 +1,16 @@
 -- One command at a place of the sheet. Assumes nothing.
-use Rattle.std.proofs.Common.{◌≡◌, ℕ, zero, suc, ◌+◌, ◌-◌, ◌<◌, ◌≤◌, Bool, true, false, cond, ltb, List, [], ◌∷◌, ◌++◌, length, get_or, take, drop, Some, None, Ok, Err, Option, Result, sym, refl, ap, ◌∙◌, subst, arith}
+use Rattle.std.proofs.Common.{◌≡◌, ℕ, ◌+◌, ◌-◌, ◌<◌, ◌≤◌, Bool, true, false, cond, ltb, List, [], ◌∷◌, ◌++◌, length, get_or, take, drop, Some, None, Ok, Err, Option, Result, sym, refl, ap, ◌∙◌, subst, arith}
 use Rattle.std.proofs.lemmas.List.{take_rest, drop_more, drop-drop, length-drop, drop_all}
-use Rattle.std.proofs.lemmas.Bool.{ltb-true, ltb-false, lt-ltb, le-ltb}
 use Rattle.sheet.specs.declared.command.CommandFault.{CommandFault}
 use Rattle.sheet.specs.declared.command.CommandFault.TheVariants as command_fault
 use Rattle.table.specs.declared.refusal.Refusal.{Refusal}
 use Rattle.table.specs.Faults.{bytes_after_at, cut_at, row_refused_at}
 use Rattle.sheet.specs.declared.command.Effect.{Effect}
-use Rattle.sheet.specs.declared.command.Effect.TheVariants.{Continues, Completes, Ends, TooManySegments}
+use Rattle.sheet.specs.declared.command.Effect.TheVariants.{Continues, Completes, Ends}
 use Rattle.sheet.specs.Commands.{command_answer, command_left, answer_with, left_with, fault_at}
 use Rattle.sheet.specs.Readers.{after_call}
 use Rattle.sheet.specs.Language.{Grammar, Outcome, accepted, refused, After, stops, moves, Step, missing, Parses, stop, move}
-use Rattle.sheet.proofs.Total.{step, begun, acted, ended, step_holds}
+use Rattle.sheet.proofs.Total.{begun, acted, ended, step_holds}
 
 module _ {S R : Type 0} (g : Grammar S R) (j : List R → R → Option Refusal) (s : S) (table : List R) (place : ℕ) where
   bad_with : (tag : ℕ) (rest : List ℕ) (o : Option ℕ) (b : CommandFault) → Err b ≡ answer_with g s tag rest o → stops (refused (fault_at b place)) ≡ begun g j s table place o tag rest

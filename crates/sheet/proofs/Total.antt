@@ -1,13 +1,12 @@
 -- Every byte string has exactly one outcome. Assumes nothing.
-use Rattle.std.proofs.Common.{◌≡◌, ℕ, zero, suc, ◌+◌, ◌<◌, ◌≤◌, Bool, true, false, cond, ltb, List, [], ◌∷◌, ◌++◌, length, take, drop, Some, None, Option, sym, refl, ap, ◌∙◌, subst, arith, length-drop}
-use Rattle.std.proofs.lemmas.List.{take_at, drop_at, take-append-drop, length-take-le, length-append, append-nil}
-use Rattle.std.proofs.lemmas.Bool.{cases_Bool, ltb-true, ltb-false, lt-ltb, le-ltb, cond-true, cond-false}
+use Rattle.std.proofs.Common.{◌≡◌, ℕ, zero, suc, ◌+◌, ◌<◌, ◌≤◌, Bool, true, false, cond, ltb, List, [], ◌∷◌, ◌++◌, length, take, drop, Some, None, Option, sym, refl, ap, ◌∙◌, subst, arith}
+use Rattle.std.proofs.lemmas.List.{take_at, drop_at, take-append-drop, length-take-le, length-append}
+use Rattle.std.proofs.lemmas.Bool.{ltb-true, ltb-false, lt-ltb, le-ltb}
 use Rattle.table.specs.declared.refusal.Refusal.{Refusal}
-use Rattle.table.specs.declared.fault.Fault.{Fault}
 use Rattle.table.specs.Faults.{not_allowed_at, cut_at, too_many_segments_at, row_refused_at, bytes_after_at}
 use Rattle.sheet.specs.declared.command.Effect.{Effect}
 use Rattle.sheet.specs.declared.command.Effect.TheVariants.{Continues, Completes, Ends, TooManySegments}
-use Rattle.sheet.specs.Language.{Grammar, Outcome, accepted, refused, After, stops, moves, Command, Step, missing, strange, cut, ninth, goes, enters, barred, ends, trailing, Parses, stop, move, Unique, OneOutcome}
+use Rattle.sheet.specs.Language.{Grammar, Outcome, accepted, refused, After, stops, moves, Command, Step, missing, strange, cut, ninth, goes, enters, barred, ends, trailing, Parses, stop, move, OneOutcome}
 
 module _ {S R : Type 0} (g : Grammar S R) (judge : List R → R → Option Refusal) where
   module _ (s : S) (table : List R) (place : ℕ) where

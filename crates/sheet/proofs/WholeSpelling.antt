@@ -1,12 +1,12 @@
 -- Accepted sheets of whole rows are written down as they should be. Assumes nothing.
-use Rattle.std.proofs.Common.{◌≡◌, ℕ, List, [], ◌∷◌, ◌++◌, length, Some, None, Option, sym, refl, ap, ◌∙◌, subst, arith}
+use Rattle.std.proofs.Common.{◌≡◌, ℕ, List, [], ◌∷◌, ◌++◌, length, Some, None, Option, sym, refl, subst, arith}
 use Rattle.model.specs.declared.whole.Whole.{Whole}
 use Rattle.table.specs.declared.refusal.Refusal.{Refusal}
 use Rattle.sheet.specs.declared.command.Effect.{Effect}
 use Rattle.sheet.specs.declared.command.Effect.TheVariants.{Continues, Completes, Ends}
 use Rattle.sheet.specs.declared.whole.WholeDraft.{WholeDraft}
 use Rattle.sheet.specs.Bytes.{whole_task_byte, end_byte}
-use Rattle.sheet.specs.Language.{Parses, stop, move, Step, goes, enters, ends, accepted}
+use Rattle.sheet.specs.Language.{Parses, stop, move, goes, enters, ends, accepted}
 use Rattle.sheet.specs.Spelling.{two, four}
 use Rattle.sheet.specs.WholeSheets.{whole_grammar}
 use Rattle.sheet.specs.WholeTasks.{WholeTask, task}

@@ -1,5 +1,5 @@
 -- Accepted sheets are the sheets that are written down as they should be. Assumes nothing.
-use Rattle.std.proofs.Common.{◌≡◌, ℕ, Bool, List, [], ◌∷◌, ◌++◌, sym, refl, ap, ◌∙◌, subst, arith}
+use Rattle.std.proofs.Common.{ℕ, Bool, List, [], ◌∷◌, ap, ◌∙◌, arith}
 use Rattle.model.specs.Rows.{Kind}
 use Rattle.model.specs.SegmentedRows.{segmented_blank, segmented_kind}
 use Rattle.model.specs.WholeRows.{whole_kind}

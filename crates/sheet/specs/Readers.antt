@@ -1,5 +1,5 @@
 -- What the reader's answers mean. Assumes nothing.
-use Rattle.std.specs.Prelude.{ℕ, Bool, true, false, cond, List, take, Ok, Err, Result}
+use Rattle.std.specs.Prelude.{ℕ, Bool, cond, List, take, Ok, Err, Result}
 use Rattle.table.specs.declared.fault.Fault.{Fault}
 use Rattle.sheet.specs.Sheets.{Verdict, good, bad}
 use Rattle.sheet.specs.Language.{Outcome, accepted, refused, After, stops, moves}

@@ -1,5 +1,5 @@
 -- The table in a memory, the memory after it, and rows that move down one. Assumes nothing.
-use Rattle.std.proofs.Common.{◌≡◌, ℕ, ◌+◌, ◌-◌, ◌<◌, ◌≤◌, min, List, [], ◌∷◌, ◌++◌, length, get_or, take, drop, set, sym, refl, ap, ◌∙◌, inl, inr, arith}
+use Rattle.std.proofs.Common.{◌≡◌, ℕ, ◌+◌, ◌-◌, ◌<◌, ◌≤◌, min, List, [], ◌∷◌, ◌++◌, length, get_or, take, drop, set, sym, ap, ◌∙◌, inl, inr, arith}
 use Rattle.std.proofs.lemmas.List.{take_all, append_assoc, append-nil, take-append-drop, drop_more, set_at, take_more, length-append, length-take, length-drop, get_or-append_right, get_or-drop, take-take, drop-take, set-append_left}
 use Rattle.std.proofs.lemmas.Bool.{cases_lt}
 

@@ -1,5 +1,5 @@
 -- Only the byte at the place is written.
-use Rattle.std.proofs.Common.{◌≡◌, ℕ, List, get_or, set, ap, ◌∙◌}
+use Rattle.std.proofs.Common.{ℕ, List, get_or, set, ap, ◌∙◌}
 use Rattle.std.proofs.lemmas.List.{set-get_or, set-set}
 use Rattle.sheet_damage.proofs.count_changes.Goals as goal
 use Rattle.sheet_damage.proofs.count_changes.Goals.{else-loop-step-test, then-loop-step-test+else-step-lt255}

@@ -1,4 +1,4 @@
-use Rattle.std.proofs.Common.{◌≡◌, ℕ, ◌+◌, ◌-◌, ◌*◌, ◌/◌, ◌%◌, ◌^◌, ◌<◌, ◌≤◌, true, length, None, sym, refl, ap, ◌∙◌, arith, rules}
+use Rattle.std.proofs.Common.{◌≡◌, ℕ, ◌+◌, ◌-◌, ◌^◌, ◌<◌, true, length, None, sym, refl, ap, ◌∙◌, arith, rules}
 use lib.Bits.{bit_or}
 use Rattle.std.proofs.lemmas.Nat.{pow_pos}
 use Rattle.std.proofs.lemmas.Bool.{and_from, le-leb}
@@ -7,7 +7,7 @@ use Rattle.assign.specs.Assignment.{under_others}
 use Rattle.feasibility.proofs.Bits.{or_back}
 use Rattle.assign.proofs.MaskedPools.{asked_others}
 use Rattle.assign.specs.Search.{has_room}
-use Rattle.assign.proofs.Steps.{bit_in, bit_out, count_yes, count_no, count_full, begun, none_failed, failed_yes, failed_no, takes, stepped, accepts, sticks}
+use Rattle.assign.proofs.Steps.{bit_in, bit_out, count_yes, count_no, count_full, begun, none_failed, failed_yes, failed_no, stepped, accepts, sticks}
 use Rattle.assign.proofs.Verdicts.{tells_stuck, tells_accepted, largest, none_fits, fitted, some_fits}
 use Rattle.assign.proofs.search.assign.Goals as goal
 use Rattle.assign.proofs.search.assign.Goals.{then-pool-place-eq1+in_default, else-pool-place-eq1}

@@ -1,6 +1,6 @@
-use Rattle.std.proofs.Common.{◌≡◌, ◌+◌, ◌-◌, true, false, not, ◌&&◌, ltb, length, get_or, take, drop, sym, ap, ◌∙◌}
+use Rattle.std.proofs.Common.{◌≡◌, ◌+◌, true, false, not, ◌&&◌, ltb, get_or, drop, sym, ap, ◌∙◌}
 use Rattle.std.proofs.lemmas.List.{at_drop_more, at_drop_all, take_rest}
-use Rattle.std.proofs.lemmas.Bool.{and_left, and_right, le-ltb, lt-ltb, not_from_true, not_from_false}
+use Rattle.std.proofs.lemmas.Bool.{and_left, and_right, le-ltb, lt-ltb, not_from_true}
 use Rattle.report.specs.Reports.{occurs, each_once}
 use Rattle.report.proofs.order.names_each_once.Goals as goal
 

@@ -1,4 +1,4 @@
-use Rattle.std.proofs.Common.{[], ◌∷◌, ◌++◌, length, decimal, arith}
+use Rattle.std.proofs.Common.{[], ◌∷◌, ◌++◌, decimal, arith}
 use Rattle.std.proofs.lemmas.List.{length-append}
 use Rattle.report.specs.Reports.{field, last_field}
 use Rattle.report.proofs.Memory.{puts_join}

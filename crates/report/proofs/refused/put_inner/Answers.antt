@@ -1,4 +1,4 @@
-use Rattle.std.proofs.Common.{sym, arith}
+use Rattle.std.proofs.Common.{arith}
 use Rattle.report.proofs.Memory.{put_none}
 use Rattle.report.proofs.refused.put_inner.Goals as goal
 

@@ -1,4 +1,4 @@
-use Rattle.std.proofs.Common.{◌≡◌, ℕ, ◌+◌, List, [], ◌∷◌, ◌++◌, length, codes, decimal, sym, refl, ap, ◌∙◌, subst, arith}
+use Rattle.std.proofs.Common.{◌≡◌, ℕ, ◌+◌, List, [], ◌∷◌, ◌++◌, length, codes, decimal, refl, ap, ◌∙◌, subst, arith}
 use Rattle.table.specs.Refusals.{refusal_number, layer_letter}
 use Rattle.table.specs.Faults.{fault_refusal, fault_layer, fault_place, fault_inner}
 use Rattle.report.specs.Memory.{Puts}

@@ -1,6 +1,5 @@
-use Rattle.std.proofs.Common.{◌≡◌, true, false, take, drop, sym, ap, ◌∙◌, subst, arith, rules}
+use Rattle.std.proofs.Common.{take, drop, arith, rules}
 use Rattle.std.proofs.lemmas.Result.{err_from_is_err_and}
-use Rattle.std.proofs.lemmas.Bool.{not-false}
 use Rattle.table.specs.Tables.{append_refusal}
 use Rattle.sheet.specs.Language.{stop, accepted}
 use Rattle.sheet.proofs.Steps.{step_on, step_ended}

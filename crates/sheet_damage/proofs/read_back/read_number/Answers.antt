@@ -1,5 +1,5 @@
 -- A text that begins otherwise than a decimal number is none, and `parse` reads the others.
-use Rattle.std.proofs.Common.{◌≡◌, ◌≤◌, List, length, get_or, ap, arith, rules}
+use Rattle.std.proofs.Common.{◌≡◌, ◌≤◌, length, get_or, rules}
 use Rattle.sheet_damage.proofs.Numbers.{number_read, unwritten_empty, unwritten_plus, unwritten_zero}
 use Rattle.sheet_damage.proofs.read_back.read_number.Goals as goal
 use Rattle.sheet_damage.proofs.read_back.read_number.Goals.{then-is_empty-via-then-is_empty, then-is_empty-via-else-is_empty+then-text-eq43, else-text-eq48-via-then-text-eq48+else-text-gt1, else-text-eq48-via-else-text-eq48}

@@ -1,4 +1,4 @@
-use Rattle.std.proofs.Common.{◌≡◌, set, sym, ap, ◌∙◌, arith}
+use Rattle.std.proofs.Common.{set, ap, ◌∙◌, arith}
 use Rattle.table.proofs.Blanks.{blank_none, blank_more, blank_all}
 use Rattle.table.proofs.rows.blank_from.Goals as goal
 

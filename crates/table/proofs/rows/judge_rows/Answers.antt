@@ -1,6 +1,6 @@
-use Rattle.std.proofs.Common.{◌≡◌, true, false, List, length, get_or, take, sym, refl, ap, ◌∙◌, subst, arith}
+use Rattle.std.proofs.Common.{true, false, take, sym, ap, ◌∙◌, subst}
 use Rattle.std.proofs.lemmas.List.{take_all, get_or_read}
-use Rattle.table.specs.Tables.{LawfulTable, FirstFault, has_id}
+use Rattle.table.specs.Tables.{LawfulTable, has_id}
 use Rattle.table.proofs.Judges.{lawful_none, lawful_more, has_before, unlawful, taken}
 use Rattle.table.proofs.rows.judge_rows.Goals as goal
 

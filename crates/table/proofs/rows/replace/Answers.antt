@@ -1,4 +1,4 @@
-use Rattle.std.proofs.Common.{◌≡◌, ◌<◌, min, true, leb, ◌++◌, length, drop, set, Some, sym, refl, ap, ◌∙◌, subst, arith}
+use Rattle.std.proofs.Common.{◌≡◌, min, true, leb, ◌++◌, length, Some, sym, refl, ap, ◌∙◌}
 use Rattle.std.proofs.lemmas.Bool.{le-leb}
 use Rattle.table.specs.Tables.{FirstWithId, has_id, table_of, after_table}
 use Rattle.table.proofs.Ids.{one_at, first_in, replaced_at}

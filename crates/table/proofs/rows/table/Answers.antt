@@ -1,4 +1,4 @@
-use Rattle.std.proofs.Common.{◌≡◌, min, length, ap, ◌∙◌}
+use Rattle.std.proofs.Common.{min, length, ap, ◌∙◌}
 use Rattle.table.proofs.Parts.{take_min}
 use Rattle.table.proofs.rows.table.Goals as goal
 

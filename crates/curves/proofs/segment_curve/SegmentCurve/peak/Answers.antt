@@ -1,7 +1,6 @@
-use Rattle.std.proofs.Common.{◌≡◌, ℕ, ◌-◌, ◌≤◌, min, true, sym, ap, ◌∙◌, subst, ap₂, arith}
+use Rattle.std.proofs.Common.{◌≡◌, ℕ, ◌-◌, min, sym, ◌∙◌, subst, ap₂, arith}
 use Rattle.model.specs.Rows.{limit}
-use Rattle.model.specs.Segments.{count, segmented_lawful}
-use Rattle.model.specs.SegmentedRows.{segmented_shape, segments_of}
+use Rattle.model.specs.SegmentedRows.{segmented_shape}
 use Rattle.model.specs.declared.segmented.Segmented.{Segmented}
 use Rattle.curves.specs.SegmentCurve.{greatest, row_work, segment_peak, PeakOfPhases}
 use Rattle.curves.specs.SegmentRules.{greatest_higher, greatest_kept, at_lawful, by_number}

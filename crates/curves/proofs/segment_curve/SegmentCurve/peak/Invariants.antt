@@ -1,4 +1,4 @@
-use Rattle.std.proofs.Common.{◌≡◌, ◌-◌, ◌≤◌}
+use Rattle.std.proofs.Common.{◌≡◌, ◌-◌}
 use Rattle.model.specs.SegmentedRows.{segmented_shape}
 use Rattle.curves.specs.SegmentCurve.{greatest, row_work}
 use Rattle.curves.proofs.segment_curve.SegmentCurve.peak.Given as goal

@@ -1,4 +1,4 @@
-use Rattle.std.proofs.Common.{◌≡◌, sym, arith}
+use Rattle.std.proofs.Common.{sym, arith}
 use Rattle.std.proofs.lemmas.Bool.{le-leb, lt-leb}
 use Rattle.curves.proofs.RowSegments.{limits, gap_inside, gap_early, gap_late}
 use Rattle.curves.proofs.segment_curve.phases.gap_after.Goals as goal

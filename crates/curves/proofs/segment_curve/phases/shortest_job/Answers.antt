@@ -1,4 +1,4 @@
-use Rattle.std.proofs.Common.{◌≡◌, ◌+◌, ◌-◌, ◌≤◌, get_or, ap, arith}
+use Rattle.std.proofs.Common.{◌≡◌, ◌+◌, ◌-◌, get_or, ap, arith}
 use Rattle.model.proofs.Totals.{sum_below, sum_more}
 use Rattle.curves.proofs.RowSegments.{limits, least_is, least_part}
 use Rattle.curves.proofs.segment_curve.phases.shortest_job.Goals as goal

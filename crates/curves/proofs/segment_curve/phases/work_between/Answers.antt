@@ -1,4 +1,4 @@
-use Rattle.std.proofs.Common.{◌≡◌, suc, ◌+◌, ◌-◌, ap, ap₂, arith}
+use Rattle.std.proofs.Common.{◌≡◌, ◌+◌, ◌-◌, ap₂, arith}
 use Rattle.curves.proofs.RowSegments.{one_more, row_work_from}
 use Rattle.curves.proofs.segment_curve.phases.work_between.Goals as goal
 

@@ -1,5 +1,5 @@
-use Rattle.std.proofs.Common.{◌+◌, ◌*◌, ◌/◌, ◌≤◌, arith}
-use Rattle.curves.proofs.RowSegments.{limits, phase_found, phase_fits}
+use Rattle.std.proofs.Common.{arith}
+use Rattle.curves.proofs.RowSegments.{phase_found, phase_fits}
 use Rattle.curves.proofs.segment_curve.phases.work_of.Goals as goal
 
 pub returns : goal.returns

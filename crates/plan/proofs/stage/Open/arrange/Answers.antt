@@ -1,4 +1,4 @@
-use Rattle.std.proofs.Common.{take, sym, refl, arith, rules}
+use Rattle.std.proofs.Common.{sym, arith}
 use Rattle.plan.proofs.Arranges.{arrange_short, arrange_judged, arrange_given, arrange_stuck}
 use Rattle.plan.proofs.Promises.{promise}
 use Rattle.plan.proofs.stage.Open.arrange.Goals as goal

@@ -1,6 +1,6 @@
-use Rattle.std.proofs.Common.{◌≡◌, ◌+◌, ◌<◌, ◌≤◌, length, take, drop, sym, refl, ap, ◌∙◌, arith, rules}
+use Rattle.std.proofs.Common.{◌+◌, ◌<◌, ◌≤◌, length, take, drop, sym, refl, ap, ◌∙◌, arith, rules}
 use Rattle.std.proofs.lemmas.List.{length-take-le, take_more_set, drop-set-lt}
-use Rattle.sheet.specs.declared.command.Effect.TheVariants.{Continues, Completes, Ends, TooManySegments}
+use Rattle.sheet.specs.declared.command.Effect.TheVariants.{TooManySegments}
 use Rattle.table.specs.Tables.{append_refusal}
 use Rattle.table.proofs.Appends.{barred, not_barred, not_full}
 use Rattle.sheet.proofs.Steps.{at_end, bad_at, good_at, trailing_at, ended_at, barred_at, goes_at, enters_at}
