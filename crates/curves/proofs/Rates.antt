@@ -1,6 +1,6 @@
 -- A curve that keeps its rules gives each task at least C / T of every window. Assumes nothing.
 use Rattle.std.proofs.Common.{◌≡◌, ℕ, zero, suc, ◌+◌, ◌*◌, ◌≤◌, true, List, [], ◌∷◌, length, refl, ap, mul_comm, arith}
-use Rattle.std.specs.List.{slice_get, AllByRecursion as All}
+use Rattle.std.specs.List.{slice_get, AllByRecursion}
 use Rattle.model.specs.Patterns.{Pattern, final, step, costs, suspensions}
 use Rattle.model.specs.Rows.{Kind, Bounds, limit}
 use Rattle.model.specs.Runs.{Job, Task, Run, ran, Ends, start, Spaced, Level}
@@ -22,7 +22,7 @@ every_spaced : (T : ℕ) (p : Pattern) (x n : ℕ) → Spaced T x (every T p x n
 every_spaced T p x zero = tt
 every_spaced T p x (suc n) = (omega arith, every_spaced T p (x + T) n)
 
-every_all : (P : Pattern → Type 0) (T : ℕ) (p : Pattern) → P p → (x n : ℕ) → All (λ j. P j.pattern) (every T p x n)
+every_all : (P : Pattern → Type 0) (T : ℕ) (p : Pattern) → P p → (x n : ℕ) → AllByRecursion (λ j. P j.pattern) (every T p x n)
 every_all P T p ok x zero = tt
 every_all P T p ok x (suc n) = (ok, every_all P T p ok (x + T) n)
 
@@ -55,7 +55,7 @@ module _ {R : Type 0} (kind : Kind R) (x : R) (lawful : kind.lawful x ≡ true) 
 
   -- a task on its own is never late
   alone : (run : Run R) → Lawful kind run → (jobs : List Job) → Level run 0 (record { row = x; jobs = jobs })
-      → Spaced (kind.period x) 0 jobs → All (λ j. (costs j.pattern ≤ kind.compute x) × (suspensions j.pattern ≤ kind.suspend x)) jobs
+      → Spaced (kind.period x) 0 jobs → AllByRecursion (λ j. (costs j.pattern ≤ kind.compute x) × (suspensions j.pattern ≤ kind.suspend x)) jobs
       → NoLate kind run 0 (record { row = x; jobs = jobs })
   alone run law jobs at spaced small =
       all_in_time (ran run.ticks 0) (higher run.ticks 0) (λ p. (costs p ≤ kind.compute x) × (suspensions p ≤ kind.suspend x))

@@ -4,7 +4,7 @@ use Rattle.std.proofs.Common.{ap}
 use Rattle.std.proofs.Math.Logic.{inl, inr}
 use Rattle.std.proofs.Math.Nat.{mul-le-mul_right, mul-le-mul_left}
 use native.Mathlib.Omega.{arith}
-use Rattle.std.specs.List.{AllByRecursion as All}
+use Rattle.std.specs.List.{AllByRecursion}
 use Rattle.std.proofs.lemmas.Bool.{cases_lt, cases_Bool, cond-true, cond-false}
 use Rattle.model.specs.Runs.{Job, Task, Run, ran, used, Level}
 use Rattle.model.specs.Patterns.{costs}
@@ -38,7 +38,7 @@ ceil_rises n m d h l =
     ]
 
 pub all_costs : {R : Type 0} (kind : Kind R) (x : R) → kind.lawful x ≡ true → (jobs : List Job)
-    → All (λ j. kind.allows x j.pattern ≡ true) jobs → All (λ j. costs j.pattern ≤ kind.compute x) jobs
+    → AllByRecursion (λ j. kind.allows x j.pattern ≡ true) jobs → AllByRecursion (λ j. costs j.pattern ≤ kind.compute x) jobs
 all_costs kind x l [] a = tt
 all_costs kind x l (j ∷ js) (a, rest) = ((kind.r2 x j.pattern l a).0, all_costs kind x l js rest)
 

@@ -1,7 +1,7 @@
 -- The segment curve keeps the rules of curves, for every way to read rows as segmented rows. Assumes nothing.
 use Rattle.std.specs.Prelude.{◌≡◌, ℕ, zero, suc, ◌+◌, ◌-◌, ◌*◌, ◌<◌, ◌≤◌, min, true, false, cond, ltb, List, [], ◌∷◌, length, nat_le, nat_lt, refl}
 use Rattle.std.proofs.Common.{ap, ap₂, sym, subst, ◌∙◌, inl, inr, mul-le-mul_right, arith}
-use Rattle.std.specs.List.{AllByRecursion as All}
+use Rattle.std.specs.List.{AllByRecursion}
 use Rattle.std.proofs.lemmas.Bool.{cases_lt, cases_Bool, cond-true, cond-false, cond_both, and_parts, leb-true, ltb-true, ltb-false, lt-ltb, le-ltb}
 use Rattle.model.specs.Runs.{Job, Task, Run, ran, used, Level}
 use Rattle.model.specs.Rows.{Bounds, limit}
@@ -155,7 +155,7 @@ module _ {R : Type 0} (shape : Shape R) where
         | inr n ↦ omega (arith, work_other x t n)
       ]
 
-  all_fit : (x : R) (jobs : List Job) → All (λ j. keeps_ranges (shape.segments x) j.pattern ≡ true) jobs → All (λ j. Fits (shape.segments x) j.pattern) jobs
+  all_fit : (x : R) (jobs : List Job) → AllByRecursion (λ j. keeps_ranges (shape.segments x) j.pattern ≡ true) jobs → AllByRecursion (λ j. Fits (shape.segments x) j.pattern) jobs
   all_fit x [] a = tt
   all_fit x (j ∷ js) (a, rest) = (kept_fits (shape.segments x) j.pattern a, all_fit x js rest)
 

@@ -1,7 +1,7 @@
 -- What a task with such segments runs in a window, whatever gaps are laid between its jobs, if they are no longer than runs allow. Assumes nothing.
 use Rattle.std.specs.Prelude.{◌≡◌, ℕ, zero, suc, ◌+◌, ◌-◌, ◌<◌, ◌≤◌, min, true, false, ◌&&◌, List, [], ◌∷◌, nat_le, refl}
 use Rattle.std.proofs.Common.{inl, inr, arith}
-use Rattle.std.specs.List.{AllByRecursion as All}
+use Rattle.std.specs.List.{AllByRecursion}
 use Rattle.std.proofs.lemmas.Bool.{cases_lt, leb-true, and_parts}
 use Rattle.model.specs.Patterns.{Pattern, final, step}
 use Rattle.model.specs.Runs.{Job, Done, Ends, Unmet, start, JobsWait, Spaced}
@@ -145,7 +145,7 @@ module _ (f : ℕ → ℕ) (c : Counts f) where
   module _ (s : Segments) (T : ℕ) (gap : ℕ → ℕ) (some : 1 ≤ T) (room : all_ticks s + least_gaps s ≤ T)
       (short_gaps : (q : ℕ) → gap q ≤ T - (all_ticks s + least_gaps s)) where
     abbrev pub AllFit : List Job → Type 0
-    AllFit jobs = All (λ j. Fits s j.pattern) jobs
+    AllFit jobs = AllByRecursion (λ j. Fits s j.pattern) jobs
 
     -- jobs from moment x on run no more than whole jobs one after another from there
     pub later_jobs : (jobs : List Job) (free x : ℕ) → Spaced T x jobs → AllFit jobs → (e : ℕ) → free ≤ e

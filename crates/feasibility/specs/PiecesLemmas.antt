@@ -2,7 +2,7 @@
 use Rattle.std.specs.Prelude.{◌≡◌, ℕ, suc, ◌+◌, ◌<◌, ◌≤◌, Bool, true, false, cond, ◌&&◌, leb, List, [], ◌∷◌, length, Some, None, sum_by, Option, nat_le, refl}
 use Rattle.std.proofs.Common.{ap, ap₂, sym, subst, ◌∙◌, inl, inr, arith}
 use Rattle.std.proofs.Math.Path.{fun_ext}
-use Rattle.std.specs.List.{AllByRecursion as All}
+use Rattle.std.specs.List.{AllByRecursion}
 use Rattle.std.proofs.lemmas.Bool.{leb-true, le-leb, and_parts, and_from}
 use Rattle.model.specs.Bags.{◌~◌, Part}
 use Rattle.model.specs.Patterns.{Pattern, final, step}
@@ -163,7 +163,7 @@ module _ {R : Type 0} (shape : Shape R) (w : Workload R) (rules : CurveRules (se
       let covers = sum_covers (part_of x A) (λ c t e. omega (arith, part_enough x A c t e)) (shape.segments x) ok.pieces ok.found in
       (omega (arith, ok.is, (kind.r1 x ok.row_lawful).some_cost), ok.in_deadline)
 
-  all_fit : (x : R) (jobs : List Job) → All (λ j. keeps_ranges (shape.segments x) j.pattern ≡ true) jobs → All (λ j. Fits (shape.segments x) j.pattern) jobs
+  all_fit : (x : R) (jobs : List Job) → AllByRecursion (λ j. keeps_ranges (shape.segments x) j.pattern ≡ true) jobs → AllByRecursion (λ j. Fits (shape.segments x) j.pattern) jobs
   all_fit x [] a = tt
   all_fit x (j ∷ js) (a, rest) = (kept_fits (shape.segments x) j.pattern a, all_fit x js rest)
 

@@ -2,7 +2,7 @@
 use Rattle.std.specs.Prelude.{◌≡◌, ℕ, ◌+◌, ◌<◌, ◌≤◌, Bool, true, cond, ◌&&◌, List, [], ◌∷◌, length, Some, None, sum_by, nat_le}
 use Rattle.std.proofs.Common.{ap, ap₂, ◌∙◌, arith}
 use Rattle.std.proofs.Math.Path.{fun_ext}
-use Rattle.std.specs.List.{AllByRecursion as All}
+use Rattle.std.specs.List.{AllByRecursion}
 use Rattle.std.proofs.lemmas.Bool.{leb-true, le-leb, and_parts, and_from}
 use Rattle.model.specs.Bags.{◌~◌, Part}
 use Rattle.model.specs.Patterns.{costs, suspensions}
@@ -19,7 +19,7 @@ use Rattle.feasibility.specs.Least.{least_found, least_sooner}
 use Rattle.feasibility.specs.Above.{sum_reordered, lawful_reordered, sum_part, lawful_part, cond_some, above_bound}
 
 pub all_allowed : {R : Type 0} (kind : Kind R) (x : R) → kind.lawful x ≡ true → (jobs : List Job)
-    → All (λ j. kind.allows x j.pattern ≡ true) jobs → All (λ j. (costs j.pattern ≤ kind.compute x) × (suspensions j.pattern ≤ kind.suspend x)) jobs
+    → AllByRecursion (λ j. kind.allows x j.pattern ≡ true) jobs → AllByRecursion (λ j. (costs j.pattern ≤ kind.compute x) × (suspensions j.pattern ≤ kind.suspend x)) jobs
 all_allowed kind x l [] a = tt
 all_allowed kind x l (j ∷ js) (a, rest) = (kind.r2 x j.pattern l a, all_allowed kind x l js rest)
 

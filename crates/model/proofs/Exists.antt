@@ -1,6 +1,6 @@
 -- Tasks run in one lawful way: there is a lawful run of each length, and two of one length are the same. Assumes nothing.
 use Rattle.std.proofs.Common.{◌≡◌, ℕ, zero, suc, ◌+◌, ◌<◌, ◌≤◌, ◌⊎◌, List, [], ◌∷◌, ◌++◌, length, Some, None, Option, sym, refl, ap, ◌∙◌, subst, inl, inr, arith, length-append}
-use Rattle.std.specs.List.{slice_get, AllByRecursion as All}
+use Rattle.std.specs.List.{slice_get, AllByRecursion}
 use Rattle.std.proofs.lemmas.Bool.{cases_lt}
 use Rattle.std.proofs.lemmas.Option.{slice_get_past}
 use Rattle.model.specs.Patterns.{Pattern, final, step}
@@ -226,12 +226,12 @@ ruled : {R : Type 0} (kind : Kind R) (run : Run R) → Lawful kind run → Ruled
 ruled kind run law t None e = law.idles t e
 ruled kind run law t (Some i) e = law.runs t i e
 
-all_level : {R : Type 0} (kind : Kind R) (tasks : List (Task R)) → All (λ task. LawfulTask kind task) tasks → (i : ℕ) (task : Task R) → slice_get tasks i ≡ Some task → LawfulTask kind task
+all_level : {R : Type 0} (kind : Kind R) (tasks : List (Task R)) → AllByRecursion (λ task. LawfulTask kind task) tasks → (i : ℕ) (task : Task R) → slice_get tasks i ≡ Some task → LawfulTask kind task
 all_level kind [] a i task e = absurd (none_some None task refl e)
 all_level kind (x ∷ xs) a zero task e = subst (λ y. LawfulTask kind y) (some_same x task e) a.0
 all_level kind (x ∷ xs) a (suc i) task e = all_level kind xs a.1 i task e
 
-pub exists : {R : Type 0} (kind : Kind R) (tasks : List (Task R)) → All (λ task. LawfulTask kind task) tasks → (H : ℕ)
+pub exists : {R : Type 0} (kind : Kind R) (tasks : List (Task R)) → AllByRecursion (λ task. LawfulTask kind task) tasks → (H : ℕ)
     → (run : Run R) × (run.tasks ≡ tasks) × (length run.ticks ≡ H) × Lawful kind run
 exists kind tasks lawful H =
     let (xs, len, rules) = built tasks H in

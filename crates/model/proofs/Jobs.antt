@@ -1,6 +1,6 @@
 -- Jobs in a row that are not held up by levels below: each is finished one bound after its release. Assumes nothing.
 use Rattle.std.proofs.Common.{◌≡◌, ℕ, zero, suc, ◌+◌, ◌<◌, ◌≤◌, List, [], ◌∷◌, Some, None, refl, ap, inl, inr, arith}
-use Rattle.std.specs.List.{slice_get, AllByRecursion as All}
+use Rattle.std.specs.List.{slice_get, AllByRecursion}
 use Rattle.model.specs.Patterns.{Pattern, costs, suspensions}
 use Rattle.model.specs.Runs.{Job, Ends, Waits, start, JobEnds, JobsWait, Spaced}
 use Rattle.model.proofs.Marks.{Counts, ended}
@@ -22,7 +22,7 @@ module _ (f h : ℕ → ℕ) where
 
   module _ (Ok : Pattern → Type 0) (H T b : ℕ) (in_period : b ≤ T) (end_in : EndIn Ok H b) where
     -- then jobs in a row end b after their releases
-    pub all_in_time : (jobs : List Job) (free x : ℕ) → free ≤ x → Spaced T x jobs → All (λ j. Ok j.pattern) jobs → Busy H (JobsWait f free jobs)
+    pub all_in_time : (jobs : List Job) (free x : ℕ) → free ≤ x → Spaced T x jobs → AllByRecursion (λ j. Ok j.pattern) jobs → Busy H (JobsWait f free jobs)
         → (n : ℕ) (j : Job) → slice_get jobs n ≡ Some j → j.release + b ≤ H → (m : ℕ) × JobEnds f free jobs n m × (m ≤ j.release + b)
     all_in_time [] free x l s a busy n j e lasts = absurd (none_some None j refl e)
     all_in_time (i ∷ js) free x l s a busy zero j e lasts =

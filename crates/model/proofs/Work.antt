@@ -1,6 +1,6 @@
 -- A task that runs only while it waits: how much it runs in a window, by its costs and the spacing of its jobs. Assumes nothing.
 use Rattle.std.proofs.Common.{◌≡◌, ℕ, zero, suc, ◌+◌, ◌-◌, ◌*◌, ◌<◌, ◌≤◌, ◌⊎◌, List, [], ◌∷◌, Some, refl, subst, inl, inr, arith}
-use Rattle.std.specs.List.{slice_get, AllByRecursion as All}
+use Rattle.std.specs.List.{slice_get, AllByRecursion}
 use Rattle.std.proofs.lemmas.Bool.{cases_lt}
 use Rattle.model.specs.Patterns.{Pattern, final, step, costs}
 use Rattle.model.specs.Runs.{Job, Done, Ends, Waits, start, JobEnds, JobsWait, Spaced}
@@ -85,7 +85,7 @@ module _ (f : ℕ → ℕ) (c : Counts f) where
 
   module _ (T C : ℕ) where
     abbrev pub Costs : List Job → Type 0
-    Costs jobs = All (λ j. costs j.pattern ≤ C) jobs
+    Costs jobs = AllByRecursion (λ j. costs j.pattern ≤ C) jobs
 
     -- jobs from moment x on run at most C ticks in each T from there, and at most one tick a tick
     pub later : (jobs : List Job) (free x : ℕ) → Spaced T x jobs → Costs jobs → (e : ℕ) → free ≤ e

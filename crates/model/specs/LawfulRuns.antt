@@ -1,13 +1,13 @@
 -- Which runs are lawful. Assumes nothing.
 use Rattle.std.specs.Prelude.{◌≡◌, ℕ, ◌<◌, true, Some, None}
-use Rattle.std.specs.List.{slice_get, AllByRecursion as All}
+use Rattle.std.specs.List.{slice_get, AllByRecursion}
 use Rattle.model.specs.Runs.{Task, Run, Spaced, Level, Waiting, Kept}
 use Rattle.model.specs.Rows.{Kind}
 
 pub record LawfulTask {R : Type 0} (kind : Kind R) (task : Task R) : Type 0 where
   pub row_lawful : kind.lawful task.row ≡ true
   pub spaced : Spaced (kind.period task.row) 0 task.jobs
-  pub allowed : All (λ j. kind.allows task.row j.pattern ≡ true) task.jobs
+  pub allowed : AllByRecursion (λ j. kind.allows task.row j.pattern ≡ true) task.jobs
 
 pub record Lawful {R : Type 0} (kind : Kind R) (run : Run R) : Type 0 where
   pub tasks : (i : ℕ) (task : Task R) → Level run i task → LawfulTask kind task

@@ -1,6 +1,6 @@
 -- What is proved of runs. Assumes nothing.
 use Rattle.std.specs.Prelude.{◌≡◌, ℕ, ◌+◌, ◌<◌, ◌≤◌, ◌⊎◌, ◌↔◌, List, length, Some, Option}
-use Rattle.std.specs.List.{AllByRecursion as All, slice_get}
+use Rattle.std.specs.List.{AllByRecursion, slice_get}
 use Rattle.model.specs.Patterns.{Pattern}
 use Rattle.model.specs.Rows.{Kind}
 use Rattle.model.specs.Runs.{Job, Task, Run, ran, used, sum_to, Ends, JobEnds}
@@ -22,7 +22,7 @@ TicksCounted = (ticks : List (Option ℕ)) → Counted ticks
 
 -- Tasks run in one lawful way: there is a lawful run of each length, and two of one length are the same
 pub record OneRun {R : Type 0} (kind : Kind R) (tasks : List (Task R)) : Type 0 where
-  pub exists : All (λ task. LawfulTask kind task) tasks → (H : ℕ) → (run : Run R) × (run.tasks ≡ tasks) × (length run.ticks ≡ H) × Lawful kind run
+  pub exists : AllByRecursion (λ task. LawfulTask kind task) tasks → (H : ℕ) → (run : Run R) × (run.tasks ≡ tasks) × (length run.ticks ≡ H) × Lawful kind run
   pub once : (one two : Run R) → Lawful kind one → Lawful kind two → one.tasks ≡ tasks → two.tasks ≡ tasks
       → length one.ticks ≡ length two.ticks → one.ticks ≡ two.ticks
 

@@ -1,6 +1,6 @@
 -- Values from an independent implementation, computed. Assumes nothing.
 use Rattle.std.proofs.Common.{◌≡◌, ℕ, Bool, true, false, cond, eqb, List, [], ◌∷◌, map, get_or, Some, None, Option, refl, ap, subst}
-use Rattle.std.specs.List.{AllByRecursion as All}
+use Rattle.std.specs.List.{AllByRecursion}
 use Rattle.model.specs.Rows.{Kind}
 use Rattle.model.specs.SegmentedRows.{segmented_shape, segmented_kind}
 use Rattle.model.specs.WholeRows.{whole_kind}
@@ -21,7 +21,7 @@ use Rattle.worked.specs.Outside.{CurveValue, curve, AnswerValue, answer, ReportV
 use Rattle.worked.proofs.Computed.{none_some, verdict_by, verdict_holds, plan_by, planned}
 
 -- if what is computed for each element of a list is what is given for it, all of them agree
-pub all_agree : {X Y : Type 0} (computed given : X → Y) (Agrees : X → Type 0) → ((x : X) → computed x ≡ given x → Agrees x) → (xs : List X) → map computed xs ≡ map given xs → All Agrees xs
+pub all_agree : {X Y : Type 0} (computed given : X → Y) (Agrees : X → Type 0) → ((x : X) → computed x ≡ given x → Agrees x) → (xs : List X) → map computed xs ≡ map given xs → AllByRecursion Agrees xs
 all_agree computed given Agrees f [] e = tt
 all_agree computed given Agrees f (x ∷ xs) e =
     let one : computed x ≡ given x = cc in

@@ -1,7 +1,7 @@
 -- Values from an independent implementation: of the workload curves, answers of the tests, reports of sheets. Assumes nothing.
 use Rattle.std.specs.Prelude.{◌≡◌, ℕ, ◌+◌, ◌-◌, ◌*◌, Bool, cond, List, [], ◌∷◌, ◌++◌, Some, None, codes, Option, ◌==◌, nat_lt, slice_index}
 use Prim.Native.String.{String}
-use Rattle.std.specs.List.{AllByRecursion as All}
+use Rattle.std.specs.List.{AllByRecursion}
 use Rattle.model.specs.Rows.{Kind}
 use Rattle.model.specs.SegmentedRows.{segmented_shape, segmented_kind}
 use Rattle.model.specs.WholeRows.{whole_kind}
@@ -149,6 +149,6 @@ reports =
     ∷ []
 
 pub record OutsideValues : Type 0 where
-  pub curves_agree : All CurveAgrees curves
-  pub answers_agree : All AnswerAgrees answers
-  pub reports_agree : All ReportAgrees reports
+  pub curves_agree : AllByRecursion CurveAgrees curves
+  pub answers_agree : AllByRecursion AnswerAgrees answers
+  pub reports_agree : AllByRecursion ReportAgrees reports
