@@ -73,7 +73,7 @@ module _ (ticks : List (Option ℕ)) where
       elim (cases_lt (length ticks) (a + t)) [
         | inr in_run ↦ omega (arith, inside (a + t) (omega arith) (omega arith) in_run)
         | inl past ↦ elim (cases_lt (length ticks) a) [
-          | inl AllPast ↦ omega (arith, still (ran ticks i) (counts i) a (a + t) (omega arith) (λ u x y g. omega (arith, over i u (omega arith))))
+          | inl all_past ↦ omega (arith, still (ran ticks i) (counts i) a (a + t) (omega arith) (λ u x y g. omega (arith, over i u (omega arith))))
           | inr part_past ↦
               omega (
                 arith,
