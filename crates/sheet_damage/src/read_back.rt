@@ -1,5 +1,5 @@
 // Reports as they are read back.
-ghost use Rattle.std.specs.Prelude.{◌≡◌, ℕ, ◌^◌, ◌<◌, decimal, MatchOption, ◌≢◌};
+ghost use Rattle.std.specs.Prelude.{◌≡◌, ◌↔◌, ℕ, ◌^◌, ◌<◌, ◌≤◌, decimal, IsTrue, MatchOption, None, ◌≢◌};
 
 // A layer and a place in it.
 #[derive(Clone, Copy)]
@@ -17,7 +17,9 @@ pub struct Refused {
 
 impl Refused {
     // Whether a sheet of this length is refused as cut: number 3, met in the sheet, at a place that it has or ends at.
-    pub fn is_cut(&self, length: usize) -> bool {
+    pub fn is_cut(&self, length: usize) -> bool
+        ensures { IsTrue result ↔ (self.now.number ≡ 3) × (self.now.outer.layer ≡ 83) × (self.now.outer.place ≤ length) × (self.now.inner ≡ None) }
+    {
         let met = self.outer;
         self.number == 3
             && met.layer == b'S'
