@@ -3,8 +3,9 @@
 
 usage: python3 tools/snake_names.py [--list]     at the top of the repository, once, after the kit's port.py
 
-Own names are those with a dash that stand in specs/ and in the lemma files of proofs/, but for what is imported from other libraries and for names
-that Rattle makes (goals and steps, in the folders of functions). A dash stays where it joins two names of definitions, or a name and a sign.
+Own names are those with a dash that stand in specs/ and in the lemma files of proofs/, and the helpers of functions' proofs, but for what is imported from
+other libraries and for names that Rattle makes (goals and steps, in the folders of functions). A dash stays where it joins a name and a sign. Strings stay,
+and documents and must-fail edits follow where they say such a name. It proves nothing: the check decides.
 """
 import collections
 import glob
