@@ -4,7 +4,6 @@
 #[cfg(test)]
 mod tests {
     use curves::ceiling::Ceiling;
-    use curves::curve::Curve;
     use curves::segment_curve::SegmentCurve;
     use feasibility::better::Better;
     use feasibility::letter::letter_of;
@@ -15,67 +14,61 @@ mod tests {
     use model::segmented::Segmented;
     use model::whole::Whole;
     use table::refusal::Refusal;
-    use table::rows::append;
+    use table::rows::{CAPACITY, append};
 
     // Segments 1 and 1 with a wait of 6 between them.
     fn checker(period: u32, deadline: u32) -> Segmented {
-        let mut row = Segmented::blank();
-        row.id = 7;
-        row.period = period;
-        row.deadline = deadline;
-        row.count = 2;
-        row.costs[0] = 1;
-        row.costs[1] = 1;
-        row.least[0] = 6;
-        row.most[0] = 6;
-        row
+        Segmented {
+            id: 7,
+            period,
+            deadline,
+            count: 2,
+            costs: [1, 1, 0, 0, 0, 0, 0, 0],
+            least: [6, 0, 0, 0, 0, 0, 0],
+            most: [6, 0, 0, 0, 0, 0, 0],
+        }
     }
 
-    // The number with which a row is refused at the end of an empty table, or 0.
-    fn refused_with(row: Segmented) -> u8 {
-        let mut rows = [Segmented::blank(); 32];
-        match append(&mut rows, 0, row) {
-            Ok(()) => 0,
-            Err(fault) => fault.refusal.number(),
-        }
+    // Adds a row at the end of an empty table.
+    fn append_alone(row: Segmented) -> Result<(), Refusal> {
+        let mut rows = [Segmented::blank(); CAPACITY];
+        append(&mut rows, 0, row).map_err(|fault| fault.refusal)
     }
 
     #[test]
     fn deadlines_hold_computation_and_suspension(rt: HostRuntime) {
-        assert_eq!(rt; refused_with(checker(8, 8)), 0);
-        assert_eq!(rt; refused_with(checker(8, 7)), Refusal::RowUnlawful.number());
+        assert_eq!(rt; append_alone(checker(8, 8)), Ok(()));
+        assert_eq!(rt; append_alone(checker(8, 7)), Err(Refusal::RowUnlawful));
     }
 
     #[test]
     fn periods_are_limited(rt: HostRuntime) {
-        assert_eq!(rt; refused_with(checker(1_000_000, 8)), 0);
+        assert_eq!(rt; append_alone(checker(1_000_000, 8)), Ok(()));
         assert_eq!(rt;
-            refused_with(checker(1_000_001, 8)),
-            Refusal::RowUnlawful.number()
+            append_alone(checker(1_000_001, 8)),
+            Err(Refusal::RowUnlawful)
         );
     }
+
+    // The constant of a test, and its letter as contracts speak of it.
+    fn letters<R: Row, Q: Test<R>>() -> (u8, u8) {
+        (Q::LETTER, letter_of::<R, Q>())
+    }
+
+    type BetterOfBoth = Better<WholeJob<SegmentCurve>, Piecewise<SegmentCurve>>;
 
     #[test]
     fn constants_are_the_letters(rt: HostRuntime) {
         assert_eq!(rt;
-            <WholeJob<SegmentCurve> as Test<Segmented>>::LETTER,
-            letter_of::<Segmented, WholeJob<SegmentCurve>>()
+            letters::<Segmented, WholeJob<SegmentCurve>>(),
+            (b'C', b'C')
         );
         assert_eq!(rt;
-            <Piecewise<SegmentCurve> as Test<Segmented>>::LETTER,
-            letter_of::<Segmented, Piecewise<SegmentCurve>>()
+            letters::<Segmented, Piecewise<SegmentCurve>>(),
+            (b'A', b'A')
         );
-        assert_eq!(rt;
-            <WholeJob<Ceiling> as Test<Segmented>>::LETTER,
-            letter_of::<Segmented, WholeJob<Ceiling>>()
-        );
-        assert_eq!(rt;
-            <WholeJob<Ceiling> as Test<Whole>>::LETTER,
-            letter_of::<Whole, WholeJob<Ceiling>>()
-        );
-        assert_eq!(rt;
-            <Better<WholeJob<SegmentCurve>, Piecewise<SegmentCurve>> as Test<Segmented>>::LETTER,
-            letter_of::<Segmented, Better<WholeJob<SegmentCurve>, Piecewise<SegmentCurve>>>()
-        );
+        assert_eq!(rt; letters::<Segmented, WholeJob<Ceiling>>(), (b'J', b'J'));
+        assert_eq!(rt; letters::<Whole, WholeJob<Ceiling>>(), (b'J', b'J'));
+        assert_eq!(rt; letters::<Segmented, BetterOfBoth>(), (b'B', b'B'));
     }
 }

@@ -1,7 +1,10 @@
 // Questions about the tasks of a sheet.
+ghost use Rattle.std.specs.Prelude.{◌≡◌, ◌≢◌};
+ghost use Rattle.answer_vectors.specs.declared.ask.Unasked.TheVariants.{NoSuchTest};
 ghost use Rattle.model.specs.SegmentedRows.{segmented_kind};
 ghost use Rattle.model.specs.WholeRows.{whole_kind};
-ghost use Rattle.answer_vectors.specs.Named.{Named, better_test, ceiling_test, piecewise_test, whole_job_test};
+ghost use Rattle.planning.specs.Planned.{test_a, test_b, test_c, test_j};
+ghost use Rattle.answer_vectors.specs.Named.{Named};
 
 use curves::ceiling::Ceiling;
 use curves::segment_curve::SegmentCurve;
@@ -14,68 +17,91 @@ use model::row::Row;
 use model::segmented::Segmented;
 use model::whole::Whole;
 use sheet::bytes::WHOLE;
+use sheet::draft::SheetRow;
 use sheet::sheet::parse_sheet;
+use table::fault::Fault;
+use table::rows::CAPACITY;
 
 // Why a question was not put.
-#[derive(Clone, Copy)]
+#[derive(Clone, Copy, PartialEq)]
 pub enum Unasked {
     SheetRefused,
     // No test for the sheet's rows has the letter.
     NoSuchTest,
 }
 
-// The answer of the test for segmented rows that the letter names.
-fn ask_segmented(
-    letter: u8,
-    rows: &[Segmented],
-    place: usize,
-    above: u32,
+impl From<Fault> for Unasked {
+    fn from(_: Fault) -> Unasked {
+        Unasked::SheetRefused
+    }
+}
+
+// The letter of a test, the place that it is asked about, and the set of places above it.
+#[derive(Clone, Copy)]
+pub struct Question {
+    pub letter: u8,
+    pub place: usize,
+    pub above: u32,
+}
+
+// Reads the sheet's table into the memory, and asks about it.
+fn ask_table<R: SheetRow, F>(
+    sheet: &[u8],
+    memory: &mut [R; CAPACITY],
+    ask: F,
 ) -> Result<Option<u32>, Unasked>
-    ensures whole { Named segmented_kind whole_job_test letter rows.now place above result }
-    ensures pieces { Named segmented_kind piecewise_test letter rows.now place above result }
-    ensures ceiling { Named segmented_kind (ceiling_test segmented_kind) letter rows.now place above result }
-    ensures better { Named segmented_kind better_test letter rows.now place above result }
+where
+    F: FnOnce(&[R]) -> Result<Option<u32>, Unasked>,
+    requires callable { F.IsAlwaysCallable ask }
 {
-    if letter == letter_of::<Segmented, WholeJob<SegmentCurve>>() {
-        Ok(WholeJob(SegmentCurve).bound(rows, place, above))
-    } else if letter == letter_of::<Segmented, Piecewise<SegmentCurve>>() {
-        Ok(Piecewise(SegmentCurve).bound(rows, place, above))
-    } else if letter == letter_of::<Segmented, WholeJob<Ceiling>>() {
-        Ok(WholeJob(Ceiling).bound(rows, place, above))
-    } else if letter
-        == letter_of::<Segmented, Better<WholeJob<SegmentCurve>, Piecewise<SegmentCurve>>>()
+    let (tasks, _) = parse_sheet(sheet, memory)?;
+    ask(&memory[..tasks])
+}
+
+impl Question {
+    // The answer of a test, if the letter names it.
+    fn ask_named<R: Row, Q: Test<R>>(self, test: &Q, rows: &[R]) -> Result<Option<u32>, Unasked>
+        ensures named { Named R.Row.meaning Q.Test.answers self.letter rows.now self.place self.above result }
+        ensures other { Q.Test.answers.letter ≢ self.letter → result ≡ Err NoSuchTest }
     {
-        let test = Better(WholeJob(SegmentCurve), Piecewise(SegmentCurve));
-        Ok(test.bound(rows, place, above))
-    } else {
-        Err(Unasked::NoSuchTest)
-    }
-}
-
-// The answer of the test for whole rows that the letter names.
-fn ask_whole(letter: u8, rows: &[Whole], place: usize, above: u32) -> Result<Option<u32>, Unasked>
-    ensures { Named whole_kind (ceiling_test whole_kind) letter rows.now place above result }
-{
-    if letter == letter_of::<Whole, WholeJob<Ceiling>>() {
-        Ok(WholeJob(Ceiling).bound(rows, place, above))
-    } else {
-        Err(Unasked::NoSuchTest)
-    }
-}
-
-// The answer about the task at a place of the sheet's table, with the tasks of the set above it.
-pub fn ask(letter: u8, sheet: &[u8], place: usize, above: u32) -> Result<Option<u32>, Unasked> {
-    if sheet.first().copied() == Some(WHOLE) {
-        let mut rows = [Whole::blank(); 32];
-        match parse_sheet::<Whole>(sheet, &mut rows) {
-            Ok((tasks, _)) => ask_whole(letter, &rows[..tasks], place, above),
-            Err(_) => Err(Unasked::SheetRefused),
+        if self.letter == letter_of::<R, Q>() {
+            Ok(test.bound(rows, self.place, self.above))
+        } else {
+            Err(Unasked::NoSuchTest)
         }
-    } else {
-        let mut rows = [Segmented::blank(); 32];
-        match parse_sheet::<Segmented>(sheet, &mut rows) {
-            Ok((tasks, _)) => ask_segmented(letter, &rows[..tasks], place, above),
-            Err(_) => Err(Unasked::SheetRefused),
+    }
+
+    // The answer of the test for segmented rows that the letter names.
+    fn ask_segmented(self, rows: &[Segmented]) -> Result<Option<u32>, Unasked>
+        ensures whole { Named segmented_kind test_c self.letter rows.now self.place self.above result }
+        ensures pieces { Named segmented_kind test_a self.letter rows.now self.place self.above result }
+        ensures ceiling { Named segmented_kind (test_j segmented_kind) self.letter rows.now self.place self.above result }
+        ensures better { Named segmented_kind test_b self.letter rows.now self.place self.above result }
+    {
+        let better = Better(WholeJob(SegmentCurve), Piecewise(SegmentCurve));
+        self.ask_named(&WholeJob(SegmentCurve), rows)
+            .or_else(|_| self.ask_named(&Piecewise(SegmentCurve), rows))
+            .or_else(|_| self.ask_named(&WholeJob(Ceiling), rows))
+            .or_else(|_| self.ask_named(&better, rows))
+    }
+
+    // The answer of the test for whole rows that the letter names.
+    fn ask_whole(self, rows: &[Whole]) -> Result<Option<u32>, Unasked>
+        ensures { Named whole_kind (test_j whole_kind) self.letter rows.now self.place self.above result }
+    {
+        self.ask_named(&WholeJob(Ceiling), rows)
+    }
+
+    // The answer about the sheet's table.
+    pub fn ask(self, sheet: &[u8]) -> Result<Option<u32>, Unasked> {
+        if sheet.first() == Some(&WHOLE) {
+            ask_table(sheet, &mut [Whole::blank(); CAPACITY], |rows| {
+                self.ask_whole(rows)
+            })
+        } else {
+            ask_table(sheet, &mut [Segmented::blank(); CAPACITY], |rows| {
+                self.ask_segmented(rows)
+            })
         }
     }
 }

@@ -6,29 +6,10 @@
 mod ask;
 mod vector;
 
+use known_values::compare;
 use std::io;
-use vector::Vector;
-
-fn agrees(line: &str) -> bool {
-    match Vector::read(line) {
-        Some(vector) => vector.holds(),
-        None => false,
-    }
-}
+use vector::AnswerVector;
 
 fn main(rt: HostRuntime) -> io::Result<()> {
-    let mut answers: u32 = 0;
-    let mut differ: u32 = 0;
-    for line in rt.lines(rt.alloc()) {
-        let line = line?;
-        if line.starts_with('#') {
-            continue;
-        }
-        answers = answers.saturating_add(1);
-        if !agrees(&line) {
-            differ = differ.saturating_add(1);
-            println!(rt; "differs: {line}")?;
-        }
-    }
-    println!(rt; "{answers} answers, {differ} differ")
+    compare::<AnswerVector>(rt, "answers")
 }

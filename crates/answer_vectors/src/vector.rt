@@ -1,21 +1,14 @@
 // One line of known answers.
-ghost use Rattle.std.specs.Prelude.{◌≤◌};
-
-use crate::ask::ask;
-use hexadecimal::decode;
-
-// How many bytes of a sheet a line may have.
-const SHEET_BYTES: usize = 4096;
+use crate::ask::Question;
+use hexadecimal::decoded;
+use known_values::Vector;
+use std::alloc::{AllocError, Global};
 
 #[derive(Drop)]
-pub struct Vector {
-    letter: u8,
-    sheet: [u8; SHEET_BYTES],
-    length: usize,
-    place: usize,
-    above: u32,
+pub struct AnswerVector {
+    question: Question,
+    sheet: Vec<u8>,
     bound: Option<u32>,
-    ghost within: { length ≤ 4096 },
 }
 
 fn read_letter(field: &str) -> Option<u8> {
@@ -27,41 +20,43 @@ fn read_letter(field: &str) -> Option<u8> {
 
 // A bound, or that there is none. None if the field is neither.
 fn read_bound(field: &str) -> Option<Option<u32>> {
-    if field == "none" {
-        return Some(None);
+    match field {
+        "none" => Some(None),
+        _ => field.parse::<u32>().ok().map(Some),
     }
-    Some(Some(field.parse::<u32>().ok()?))
 }
 
-impl Vector {
-    pub fn read(line: &str) -> Option<Vector> {
-        let mut fields = line.split('\t');
-        let letter = read_letter(fields.next()?)?;
-        let mut sheet = [0u8; SHEET_BYTES];
-        let length = decode(fields.next()?.as_bytes(), &mut sheet)?;
-        let place = fields.next()?.parse::<usize>().ok()?;
-        let above = fields.next()?.parse::<u32>().ok()?;
-        let bound = read_bound(fields.next()?)?;
-        Some(Vector {
-            letter,
+// The question, the text of the sheet, and the bound.
+fn read_fields(line: &str) -> Option<(Question, &str, Option<u32>)> {
+    let mut fields = line.split('\t');
+    let letter = read_letter(fields.next()?)?;
+    let sheet = fields.next()?;
+    let place = fields.next()?.parse::<usize>().ok()?;
+    let above = fields.next()?.parse::<u32>().ok()?;
+    let bound = read_bound(fields.next()?)?;
+    let question = Question {
+        letter,
+        place,
+        above,
+    };
+    Some((question, sheet, bound))
+}
+
+impl Vector for AnswerVector {
+    fn read(alloc: Global, line: &str) -> Result<Option<AnswerVector>, AllocError> {
+        let Some((question, text, bound)) = read_fields(line) else {
+            return Ok(None);
+        };
+        let sheet = decoded(alloc, text.as_bytes())?;
+        Ok(sheet.map(|sheet| AnswerVector {
+            question,
             sheet,
-            length,
-            place,
-            above,
             bound,
-        })
+        }))
     }
 
     // Whether the test that the letter names gives the known answer.
-    pub fn holds(&self) -> bool {
-        match ask(
-            self.letter,
-            &self.sheet[..self.length],
-            self.place,
-            self.above,
-        ) {
-            Ok(bound) => bound == self.bound,
-            Err(_) => false,
-        }
+    fn holds(&self) -> bool {
+        self.question.ask(&self.sheet) == Ok(self.bound)
     }
 }

@@ -1,12 +1,13 @@
 -- Masks as lists of places, and a question under the others of a pool. Assumes nothing.
 use Rattle.std.proofs.Common.{◌≡◌, ℕ, zero, suc, ◌-◌, ◌^◌, ◌<◌, Bool, true, false, cond, eqb, ltb, ◌≢◌, ◌⊎◌, List, [], ◌∷◌, ◌++◌, map, length, None, sym, refl, ap, ◌∙◌, inl, inr, arith}
 use Rattle.std.proofs.lemmas.Bool.{cases_Bool, eqb-true, eqb-false, lt-ltb}
+use Rattle.std.proofs.lemmas.Nat.Bits.{bit_at_ones}
 use Rattle.model.specs.Rows.{Kind}
 use Rattle.feasibility.specs.Tests.{Answers}
 use Rattle.feasibility.specs.Masks.{row_of, places, pool_of, bit_at, has, in_mask, rows_in, askable, asked}
 use Rattle.assign.specs.Assignment.{others, under_others}
 use Rattle.assign.proofs.Pools.{but, others_pool}
-use Rattle.feasibility.proofs.Bits.{out_same, out_other, full_at}
+use Rattle.feasibility.proofs.Bits.{out_same, out_other}
 use Rattle.feasibility.proofs.Masks.{pool_suc, pool_same, has_true, has_false}
 
 pool_true : (n : ℕ) → pool_of (λ j. true) n ≡ places n
@@ -15,7 +16,7 @@ pool_true (suc n) = pool_suc (λ j. true) n ∙ ap (λ (l : List ℕ). l ++ n �
 
 -- the mask of all places
 pub in_full : (n : ℕ) → in_mask (2 ^ n - 1) n ≡ places n
-in_full n = pool_same (has (2 ^ n - 1)) (λ j. true) n (λ j l. has_true (2 ^ n - 1) j (full_at n j l)) ∙ pool_true n
+in_full n = pool_same (has (2 ^ n - 1)) (λ j. true) n (λ j l. has_true (2 ^ n - 1) j (bit_at_ones n j l)) ∙ pool_true n
 
 -- the mask with a place taken out
 pub in_out : (mask p n : ℕ) → bit_at mask p ≡ 1 → in_mask (mask - 2 ^ p) n ≡ others p (in_mask mask n)

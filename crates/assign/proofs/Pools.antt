@@ -1,11 +1,11 @@
 -- What a program that searches can hold on to in its loops. Assumes nothing.
-use Rattle.std.proofs.Common.{◌≡◌, ℕ, zero, suc, ◌+◌, ◌<◌, ◌≤◌, Bool, true, false, cond, eqb, ◌≢◌, ◌⊎◌, List, [], ◌∷◌, ◌++◌, length, Some, None, Option, sym, refl, ap, ◌∙◌, subst, inl, inr, append_assoc, append-nil, add_assoc, zero-add, arith}
+use Rattle.std.proofs.Common.{◌≡◌, ℕ, zero, suc, ◌+◌, ◌<◌, ◌≤◌, Bool, true, false, cond, eqb, ◌⊎◌, List, [], ◌∷◌, ◌++◌, length, Option, sym, refl, ap, ◌∙◌, subst, inl, inr, append_assoc, append-nil, add_assoc, zero-add, arith}
 use mathlib.Core.List.Memᴰ
 use Rattle.std.proofs.lemmas.Bool.{cases_lt, cases_Bool, eqb-true, ne_eqb, eqb-false}
 use Rattle.model.specs.Bags.{◌∈◌}
 use Rattle.feasibility.proofs.Masks.{pool_suc}
 use Rattle.feasibility.specs.Masks.{pool_of}
-use Rattle.assign.specs.Assignment.{others, Outcome, accepted, stuck, over, under_others, Takes, Stuck, Assigned, finished, level, empty_level, Filled, none_yet, one_more}
+use Rattle.assign.specs.Assignment.{others, Outcome, accepted, stuck, over, Stuck, Assigned, finished, level, empty_level, Filled, none_yet, one_more}
 
 -- the levels that are filled, lowest last, below the outcome for the rest
 abbrev pub below : List ℕ → List ℕ → ℕ → Outcome → Outcome
@@ -31,26 +31,6 @@ module _ {R : Type 0} (answer : R → List R → Option ℕ) (row : ℕ → R) w
 
   pub filled_stuck : {start pool order bounds : List ℕ} {asked : ℕ} → Filled answer row start pool order bounds asked → Stuck answer row pool → Assigned answer row start (stuck pool (asked + length pool))
   filled_stuck {pool} f s = goes_on f (stuck pool (length pool)) (empty_level s)
-
-  -- the loop over the candidates of a level: those before have no bound
-  pub record Tried (pool before rest : List ℕ) : Type 0 where
-    pub stands : pool ≡ before ++ rest
-    pub failed : (x : ℕ) → x ∈ before → under_others answer row pool x ≡ None
-
-  pub tried_none : (pool : List ℕ) → Tried pool [] pool
-  tried_none pool = record { stands = refl; failed = λ x m. elim m [ ] }
-
-  pub tried_more : {pool before rest : List ℕ} {x : ℕ} → Tried pool before (x ∷ rest) → under_others answer row pool x ≡ None → Tried pool (before ++ x ∷ []) rest
-  tried_more {pool} {before} {rest} {x} t e = record {
-    stands = t.stands ∙ sym (append_assoc before (x ∷ []) rest);
-    failed = λ y m. elim (Memᴰ.append_cases before m) [ inl k ↦ t.failed y k | inr k ↦ ap (under_others answer row pool) (Memᴰ.eq_of_singleton k) ∙ e ];
-  }
-
-  pub tried_fits : {pool before rest : List ℕ} {p b : ℕ} → Tried pool before (p ∷ rest) → under_others answer row pool p ≡ Some b → Takes answer row pool p b (length before + 1)
-  tried_fits {before} {rest} t e = record { before = before; after = rest; stands = t.stands; failed = t.failed; fits = e; count = refl }
-
-  pub tried_all : {pool before : List ℕ} → Tried pool before [] → pool ≢ [] → Stuck answer row pool
-  tried_all {pool} {before} t some = record { some_left = some; no_bound = λ x m. t.failed x (subst (λ (l : List ℕ). x ∈ l) (t.stands ∙ append-nil before) m) }
 
 -- a pool that is told by a test of each place, as by the bits of a number
 

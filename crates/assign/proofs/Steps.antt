@@ -1,9 +1,9 @@
 -- What a turn of the search's loops does. Assumes nothing.
-use Rattle.std.proofs.Common.{◌≡◌, ℕ, zero, suc, ◌+◌, ◌-◌, ◌*◌, ◌/◌, ◌%◌, ◌^◌, ◌<◌, ◌≤◌, Bool, true, cond, ◌≢◌, ◌⊎◌, List, [], ◌∷◌, ◌++◌, length, get_or, take, drop, set, Some, None, sym, refl, ap, ◌∙◌, subst, inl, inr, append_assoc, append-nil, add-one, arith, length-append, take-append-drop, length-take-le, take-suc}
+use Rattle.std.proofs.Common.{◌≡◌, ℕ, zero, suc, ◌+◌, ◌-◌, ◌*◌, ◌^◌, ◌<◌, ◌≤◌, Bool, true, false, cond, ◌≢◌, ◌⊎◌, List, [], ◌∷◌, ◌++◌, length, get_or, take, drop, set, Some, None, sym, refl, ap, ◌∙◌, subst, inl, inr, append_assoc, append-nil, add-one, arith, length-append, take-append-drop, length-take-le, take-suc}
 use mathlib.Core.List.Memᴰ
 use lib.Bits.{bit_and}
 use lib.Seq.{set_at}
-use Rattle.std.proofs.lemmas.Nat.{and_mask}
+use Rattle.std.proofs.lemmas.Bool.{eqb-true, eqb-false}
 use Rattle.model.specs.Rows.{Kind}
 use Rattle.feasibility.specs.Tests.{Answers}
 use Rattle.feasibility.specs.Masks.{row_of, places, bit_at, has, in_mask, asked}
@@ -21,18 +21,14 @@ use Rattle.assign.proofs.Invariants.{Levels, Failed}
 
 -- the code's way to take a place out of a pool
 pub taken_is : (x p b : ℕ) → p < 32 → x < 2 ^ 32 → bit_at x p ≡ 1 → b ≡ 2 ^ p → bit_and x (2 ^ 32 - 1 - b) ≡ x - 2 ^ p
-taken_is x p b h small e eb = ap (λ n. bit_and x (2 ^ 32 - 1 - n)) eb ∙ and_out x p e 31 (omega arith) small
+taken_is x p b h small e eb = ap (λ n. bit_and x (2 ^ 32 - 1 - n)) eb ∙ and_out x p e 32 h small
 
--- the code's test of a bit, of a pool that is q
-pub bit_in : (q p x : ℕ) → q ≡ p → bit_and (q / 2 ^ x) 1 ≡ 1 → bit_at p x ≡ 1
-bit_in q p x e h = ap (λ n. bit_at n x) (sym e) ∙ sym (and_mask (q / 2 ^ x) 1) ∙ h
+-- a place that the pool has or not
+pub bit_in : (pool p : ℕ) → has pool p ≡ true → bit_at pool p ≡ 1
+bit_in pool p e = eqb-true (bit_at pool p) 1 e
 
-pub bit_out : (q p x : ℕ) → q ≡ p → (bit_and (q / 2 ^ x) 1 ≡ 1 → ⊥) → bit_at p x ≡ 0
-bit_out q p x e h =
-    let small : (q / 2 ^ x) % 2 < 2 = omega arith in
-    let ne : (q / 2 ^ x) % 2 ≡ 1 → ⊥ = λ k. h (and_mask (q / 2 ^ x) 1 ∙ k) in
-    let z : (q / 2 ^ x) % 2 ≡ 0 = omega arith in
-    ap (λ n. bit_at n x) (sym e) ∙ z
+pub bit_out : (pool p : ℕ) → has pool p ≡ false → bit_at pool p ≡ 0
+bit_out pool p e = let other : bit_at pool p ≢ 1 = eqb-false (bit_at pool p) 1 e in omega arith
 
 -- the pool's places, one place further
 pub in_more_no : (pool p : ℕ) → bit_at pool p ≡ 0 → in_mask pool (p + 1) ≡ in_mask pool p

@@ -4,6 +4,7 @@ ghost use Rattle.assign.specs.Search.{Means, Searched, StuckExactly, Tells};
 
 use crate::candidate::Candidate;
 use crate::order::{Left, NoOrder};
+use feasibility::mask::{PLACES, holds};
 use feasibility::test::Test;
 use model::row::Row;
 
@@ -12,11 +13,7 @@ fn full(count: usize) -> u32
     requires { count ≤ 32 }
     ensures { result ≡ 2 ^ count - 1 }
 {
-    if count >= 32 {
-        u32::MAX
-    } else {
-        (1u32 << count) - 1
-    }
+    ((1u64 << count) - 1) as u32
 }
 
 // Finds an order of the rows and their bounds, the highest level first, and answers the number of questions put to the test.
@@ -32,23 +29,22 @@ pub fn assign<R: Row, Q: Test<R>>(
     ensures exactly { StuckExactly R.Row.meaning Q.Test.answers rows.now order.old bounds.old result }
 {
     let count = rows.len();
-    if count > 32 || order.len() < count || bounds.len() < count {
+    if count > PLACES || order.len() < count || bounds.len() < count {
         return Err(NoOrder::NoRoom);
     }
     let mut pool = full(count);
     let mut questions: u32 = 0;
-    let mut level = count;
-    'levels: while level > 0 {
-        level -= 1;
-        let mut place = 0;
+    'levels: for level in (0..count).rev() {
+        let mut places = 0..count;
+        // By a rule of the project, a loop over the candidates that yields the placed one by `break`.
         let (found, bound) = 'candidates: loop {
-            if place >= count {
+            let Some(place) = places.next() else {
                 return Err(NoOrder::Stuck(Left {
                     mask: pool,
                     questions,
                 }));
-            }
-            if (pool >> place) & 1 == 1 {
+            };
+            if holds(pool, place) {
                 let mut candidate = Candidate::take(&mut pool, place);
                 questions += 1;
                 if let Some(bound) = test.bound(rows, place, candidate.rest()) {
@@ -56,7 +52,6 @@ pub fn assign<R: Row, Q: Test<R>>(
                     break 'candidates (place, bound);
                 }
             }
-            place += 1;
         };
         order[level] = found as u8;
         bounds[level] = bound;

@@ -5,29 +5,10 @@
 mod task;
 mod vector;
 
+use known_values::compare;
 use std::io;
-use vector::Vector;
-
-fn agrees(line: &str) -> bool {
-    match Vector::read(line) {
-        Some(vector) => vector.holds(),
-        None => false,
-    }
-}
+use vector::CurveVector;
 
 fn main(rt: HostRuntime) -> io::Result<()> {
-    let mut curves: u32 = 0;
-    let mut differ: u32 = 0;
-    for line in rt.lines(rt.alloc()) {
-        let line = line?;
-        if line.starts_with('#') {
-            continue;
-        }
-        curves = curves.saturating_add(1);
-        if !agrees(&line) {
-            differ = differ.saturating_add(1);
-            println!(rt; "differs: {line}")?;
-        }
-    }
-    println!(rt; "{curves} curves, {differ} differ")
+    compare::<CurveVector>(rt, "curves")
 }

@@ -8,10 +8,12 @@ use crate::task::read_task;
 use curves::ceiling::Ceiling;
 use curves::curve::Curve;
 use curves::segment_curve::SegmentCurve;
+use known_values::Vector;
 use model::segmented::Segmented;
+use std::alloc::{AllocError, Global};
 
 #[derive(Drop)]
-pub struct Vector {
+pub struct CurveVector {
     row: Segmented,
     window: u32,
     work: u32,
@@ -19,15 +21,15 @@ pub struct Vector {
     ceiling: u32,
 }
 
-impl Vector {
-    pub fn read(line: &str) -> Option<Vector> {
-        let mut fields = line.split('\t');
-        let row = read_task(fields.next()?.as_bytes())?;
+impl CurveVector {
+    // The numbers that follow the task.
+    fn with_numbers(row: Segmented, fields: &str) -> Option<CurveVector> {
+        let mut fields = fields.split('\t');
         let window = fields.next()?.parse::<u32>().ok()?;
         let work = fields.next()?.parse::<u32>().ok()?;
         let phase = fields.next()?.parse::<usize>().ok()?;
         let ceiling = fields.next()?.parse::<u32>().ok()?;
-        Some(Vector {
+        Some(CurveVector {
             row,
             window,
             work,
@@ -35,14 +37,24 @@ impl Vector {
             ceiling,
         })
     }
+}
+
+impl Vector for CurveVector {
+    fn read(alloc: Global, line: &str) -> Result<Option<CurveVector>, AllocError> {
+        let Some((task, numbers)) = line.split_once('\t') else {
+            return Ok(None);
+        };
+        let row = read_task(alloc, task.as_bytes())?;
+        Ok(row.and_then(|row| CurveVector::with_numbers(row, numbers)))
+    }
 
     // Whether both curves give the known values.
-    pub fn holds(&self) -> bool
+    fn holds(&self) -> bool
         ensures segment { result ≡ true → segment_peak segmented_shape self.now.row self.now.window ≡ (self.now.work, self.now.phase) }
         ensures ceiling { result ≡ true → ceiling_of segmented_kind self.now.row self.now.window ≡ self.now.ceiling }
     {
-        let (work, phase) = SegmentCurve.peak(&self.row, self.window);
+        let peak = SegmentCurve.peak(&self.row, self.window);
         let ceiling = Ceiling.ticks(&self.row, self.window);
-        work == self.work && phase == self.phase && ceiling == self.ceiling
+        peak == (self.work, self.phase) && ceiling == self.ceiling
     }
 }

@@ -1,17 +1,16 @@
 -- The segment curve keeps the rules of curves, for every way to read rows as segmented rows. Assumes nothing.
-use Rattle.std.specs.Prelude.{◌≡◌, ℕ, zero, suc, ◌+◌, ◌-◌, ◌*◌, ◌<◌, ◌≤◌, min, true, false, cond, ltb, List, [], ◌∷◌, length, nat_le, nat_lt, refl}
+use Rattle.std.specs.Prelude.{◌≡◌, ℕ, zero, suc, ◌+◌, ◌-◌, ◌*◌, ◌<◌, ◌≤◌, min, true, false, cond, ltb, length, nat_le, nat_lt, refl}
 use Rattle.std.proofs.Common.{ap, ap₂, sym, subst, ◌∙◌, inl, inr, mul-le-mul_right, arith}
-use Rattle.std.specs.List.{AllByRecursion}
 use Rattle.std.proofs.lemmas.Bool.{cases_lt, cases_Bool, cond-true, cond-false, cond_both, and_parts, leb-true, ltb-true, ltb-false, lt-ltb, le-ltb}
-use Rattle.model.specs.Runs.{Job, Task, Run, ran, used, Level}
+use Rattle.model.specs.Runs.{Task, Run, ran, used, Level}
 use Rattle.model.specs.Rows.{Bounds, limit}
 use Rattle.model.specs.LawfulRuns.{Lawful, LawfulTask, NoLate}
-use Rattle.model.specs.Segments.{Segments, last, more, count, all_ticks, least_gaps, most_gaps, ranged, keeps_ranges, Shape, segmented, segmented_lawful, lawful_ranged}
+use Rattle.model.specs.Segments.{Segments, last, more, count, all_ticks, least_gaps, most_gaps, ranged, Shape, segmented, segmented_lawful, lawful_ranged}
 use Rattle.model.proofs.Ticks.{counts, clipped, runs_waiting}
 use Rattle.curves.specs.Curves.{CurveRules, CurveEdges}
 use Rattle.curves.specs.SegmentCurve.{work_from, phase_work, Peak, greatest, row_work, segment_peak, segment_workload, PeakOfPhases}
 use Rattle.curves.specs.Sequences.{worked, jobs_from, Lipschitz, lipschitz_worked, lipschitz_jobs}
-use Rattle.curves.specs.SegmentWindows.{Fits, kept_fits, segment_window}
+use Rattle.curves.specs.SegmentWindows.{all_fit, segment_window}
 use Rattle.curves.specs.Phases.{some_segments, Tail, tail_self, top_below, none_left, lipschitz_work, work_more, job_gap, phase_is, enough_same, first_gap, short_gaps}
 
 -- ---- the greatest of the phases
@@ -155,10 +154,6 @@ module _ {R : Type 0} (shape : Shape R) where
         | inr n ↦ omega (arith, work_other x t n)
       ]
 
-  all_fit : (x : R) (jobs : List Job) → AllByRecursion (λ j. keeps_ranges (shape.segments x) j.pattern ≡ true) jobs → AllByRecursion (λ j. Fits (shape.segments x) j.pattern) jobs
-  all_fit x [] a = tt
-  all_fit x (j ∷ js) (a, rest) = (kept_fits (shape.segments x) j.pattern a, all_fit x js rest)
-
   holds : (run : Run R) → Lawful (segmented shape) run → (i : ℕ) (task : Task R) → Level run i task → NoLate (segmented shape) run i task
       → (a t : ℕ) → t ≤ limit → used run.ticks i a t ≤ ticks task.row t
   holds run law i task at no_late a t h = clipped run.ticks i a t (ticks task.row t) inside
@@ -208,7 +203,7 @@ module _ {R : Type 0} (shape : Shape R) where
       inside e l g lasts =
           let bound = segment_window f (counts run.ticks i) s T (job_gap s T D) b.some_period (omega (arith, b, gaps)) (short_gaps s T D (omega (arith, b, gaps)))
           D (length run.ticks) b.in_period (first_gap s T D)
-          task.jobs 0 0 mine.spaced (all_fit x task.jobs mine.allowed) no_late (λ u y z. runs_waiting (segmented shape) run law i task at u z)
+          task.jobs 0 0 mine.spaced (all_fit (shape.segments x) task.jobs mine.allowed) no_late (λ u y z. runs_waiting (segmented shape) run law i task at u z)
           a e (omega arith) l lasts t g in
           let all = top_below s s 0 (tail_self s) (λ tail. worked tail (job_gap s T D 0) K (e - a)) (best x t).0 (phase e g) in
           let same : min t limit ≡ t = omega arith in

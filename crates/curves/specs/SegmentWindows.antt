@@ -19,7 +19,7 @@ Fits (more c lo hi s) (final k) = ⊥
 Fits (more c lo hi s) (step k w p) = (k ≤ c) × (lo ≤ w) × (w ≤ hi) × Fits s p
 
 false_true : {X : Type 0} → false ≡ true → X
-false_true e = absurd (let z : ◌≡◌ {A = ℕ} 0 1 = cc in omega arith)
+false_true e = absurd (cc)
 
 pub kept_fits : (s : Segments) (p : Pattern) → keeps_ranges s p ≡ true → Fits s p
 kept_fits (last c) (final k) e = leb-true k c e
@@ -30,6 +30,10 @@ kept_fits (more c lo hi s) (step k w p) e =
     let (b, e₂) = and_parts (nat_le lo w) (nat_le w hi && keeps_ranges s p) e₁ in
     let (d, e₃) = and_parts (nat_le w hi) (keeps_ranges s p) e₂ in
     (leb-true k c a, leb-true lo w b, leb-true w hi d, kept_fits s p e₃)
+
+pub all_fit : (s : Segments) (jobs : List Job) → AllByRecursion (λ j. keeps_ranges s j.pattern ≡ true) jobs → AllByRecursion (λ j. Fits s j.pattern) jobs
+all_fit s [] a = tt
+all_fit s (j ∷ js) (a, rest) = (kept_fits s j.pattern a, all_fit s js rest)
 
 module _ (f : ℕ → ℕ) (c : Counts f) where
   -- the task runs in [s, e) only while the pattern is active

@@ -1,4 +1,5 @@
 // The ceiling curve, for every kind of row.
+ghost use Rattle.std.specs.Prelude.{refl};
 ghost use Rattle.curves.specs.CeilingCurve.{ceiling_workload};
 ghost use Rattle.curves.specs.CeilingRules.{ceiling_keeps, ceiling_edges};
 
@@ -6,14 +7,14 @@ use crate::curve::Curve;
 use model::limits::LIMIT;
 use model::row::Row;
 
-const CEILING_LETTER: u8 = b'J';
-
 // (t + D − C) / T rounded up, times C.
 #[derive(Clone, Copy)]
 pub struct Ceiling;
 
 impl<R: Row> Curve<R> for Ceiling {
-    const LETTER: u8 = CEILING_LETTER;
+    const LETTER: u8 = b'J';
+
+    ghost LETTER = { 74 };
 
     ghost workload = { ceiling_workload R.Row.meaning };
 
@@ -21,9 +22,7 @@ impl<R: Row> Curve<R> for Ceiling {
 
     ghost edges = { ceiling_edges R.Row.meaning };
 
-    fn sign() -> u8 {
-        CEILING_LETTER
-    }
+    ghost named = { refl };
 
     fn ticks(&self, row: &R, t: u32) -> u32 {
         if !row.is_lawful() {

@@ -1,5 +1,5 @@
 // What every workload curve offers.
-ghost use Rattle.std.specs.Prelude.{◌≡◌};
+ghost use Rattle.std.specs.Prelude.{◌≡◌, ℕ};
 ghost use Rattle.curves.specs.Curves.{CurveEdges, CurveRules, Workload};
 
 use model::row::Row;
@@ -8,12 +8,10 @@ pub trait Curve<R: Row> {
     // The letter of the whole-job test over this curve.
     const LETTER: u8;
 
+    ghost LETTER: { ℕ };
+
     // What the curve gives, and that letter.
     ghost workload: { Workload R };
-
-    // The letter again, as a contract can speak of it.
-    fn sign() -> u8
-        ensures { result ≡ workload.letter };
 
     // The ticks of the row's task in a window of t ticks.
     fn ticks(&self, row: &R, t: u32) -> u32
@@ -24,4 +22,7 @@ pub trait Curve<R: Row> {
 
     // What it gives for rows that are not lawful, and past the longest window.
     ghost edges: { CurveEdges R.Row.meaning workload };
+
+    // The workload's letter is the constant.
+    ghost named: { workload.letter ≡ LETTER };
 }

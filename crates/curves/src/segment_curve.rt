@@ -1,5 +1,5 @@
 // The segment curve, for segmented rows.
-ghost use Rattle.std.specs.Prelude.{◌≡◌};
+ghost use Rattle.std.specs.Prelude.{◌≡◌, refl};
 ghost use Rattle.model.specs.SegmentedRows.{segmented_shape};
 ghost use Rattle.curves.specs.SegmentCurve.{PeakOfPhases, segment_peak, segment_workload};
 ghost use Rattle.curves.specs.SegmentRules.{segment_keeps, segment_edges};
@@ -8,10 +8,9 @@ use crate::curve::Curve;
 use model::limits::LIMIT;
 use model::row::Row;
 use model::segmented::Segmented;
+use phases::Phases;
 
 mod phases;
-
-const SEGMENT_LETTER: u8 = b'C';
 
 // The greatest work that one of the row's phases does in a window.
 #[derive(Clone, Copy)]
@@ -27,9 +26,11 @@ impl SegmentCurve {
             return (0, 0);
         }
         let window = t.min(LIMIT);
-        let mut best = (phases::work_of(row, 0, window), 0);
+        let phases = Phases { row };
+        let mut best = (phases.work_of(0, window), 0);
+        // `max_by_key` keeps the last of equals, so a chain would go through the phases backwards to answer the lowest.
         for phase in 1..row.count as usize {
-            let work = phases::work_of(row, phase, window);
+            let work = phases.work_of(phase, window);
             if best.0 < work {
                 best = (work, phase);
             }
@@ -39,7 +40,9 @@ impl SegmentCurve {
 }
 
 impl Curve<Segmented> for SegmentCurve {
-    const LETTER: u8 = SEGMENT_LETTER;
+    const LETTER: u8 = b'C';
+
+    ghost LETTER = { 67 };
 
     ghost workload = { segment_workload segmented_shape };
 
@@ -47,9 +50,7 @@ impl Curve<Segmented> for SegmentCurve {
 
     ghost edges = { segment_edges segmented_shape };
 
-    fn sign() -> u8 {
-        SEGMENT_LETTER
-    }
+    ghost named = { refl };
 
     fn ticks(&self, row: &Segmented, t: u32) -> u32 {
         self.peak(row, t).0

@@ -3,5 +3,4 @@ pub mod Masks
 pub mod Orders
 pub mod Sets
 pub mod Jumps
-pub mod Questions
 pub mod Parts

@@ -1,10 +1,10 @@
 -- Masks as lists of places. Assumes nothing.
-use Rattle.std.proofs.Common.{◌≡◌, ℕ, zero, suc, ◌+◌, ◌-◌, ◌*◌, ◌/◌, ◌%◌, ◌^◌, ◌<◌, ◌≤◌, min, Bool, true, false, cond, not, ◌&&◌, eqb, ltb, ◌⊎◌, List, [], ◌∷◌, ◌++◌, sym, refl, ap, ◌∙◌, inl, inr, append-nil, mod-eq_of_lt, add-one, arith}
+use Rattle.std.proofs.Common.{◌≡◌, ℕ, zero, suc, ◌+◌, ◌-◌, ◌*◌, ◌/◌, ◌%◌, ◌^◌, ◌<◌, ◌≤◌, min, Bool, true, false, cond, eqb, ltb, ◌⊎◌, List, [], ◌∷◌, ◌++◌, sym, refl, ap, ◌∙◌, inl, inr, append-nil, length, length-append, mod-eq_of_lt, add-one, arith}
 use native.Mathlib.Nat.{div-eq_of_lt}
-use lib.Bits.{bit_and}
-use Rattle.std.proofs.lemmas.Nat.{mod-pow-add, pow_pos, pow_below, and_mask, mod_below, shr_split}
+use lib.Count.{ones, ones_cat, ones-ones}
+use Rattle.std.proofs.lemmas.Nat.{mod-pow-add, pow_pos, pow_below, mod_below, shr_split}
 use Rattle.std.proofs.lemmas.Bool.{cases_Bool, cases_lt, eqb-true, eqb-false, ne_eqb, eq-eqb, lt-ltb, le-ltb}
-use Rattle.feasibility.specs.Masks.{places, pool_of, bit_at, has, in_mask, mask_of, askable}
+use Rattle.feasibility.specs.Masks.{places, pool_of, bit_at, has, in_mask, mask_of}
 use Rattle.std.proofs.lemmas.List.Elements.{filter-append}
 
 pub pool_suc : (test : ℕ → Bool) (n : ℕ) → pool_of test (suc n) ≡ pool_of test n ++ cond (test n) (n ∷ []) []
@@ -17,10 +17,6 @@ pool_same f g (suc n) h =
     let ih : pool_of f n ≡ pool_of g n = pool_same f g n (λ j l. h j (omega arith)) in
     let last : f n ≡ g n = h n (omega arith) in
     pool_suc f n ∙ ap (λ (l : List ℕ). l ++ cond (f n) (n ∷ []) []) ih ∙ ap (λ (b : Bool). pool_of g n ++ cond b (n ∷ []) []) last ∙ sym (pool_suc g n)
-
-pool_true : (n : ℕ) → pool_of (λ j. true) n ≡ places n
-pool_true zero = refl
-pool_true (suc n) = pool_suc (λ j. true) n ∙ ap (λ (l : List ℕ). l ++ n ∷ []) (pool_true n)
 
 pub has_true : (mask p : ℕ) → bit_at mask p ≡ 1 → has mask p ≡ true
 has_true mask p e = eq-eqb (bit_at mask p) 1 e
@@ -63,13 +59,6 @@ has_past mask p w small le =
     let lt : mask < 2 ^ p = elim (cases_lt w p) [ inl h ↦ (let q : 2 ^ w < 2 ^ p = pow_below w p h in omega arith) | inr h ↦ (let e : w ≡ p = omega arith in omega (arith, ap (λ (k : ℕ). 2 ^ k) e)) ] in
     has_false mask p (ap (λ (k : ℕ). k % 2) (div-eq_of_lt lt))
 
--- the code's tests
-pub has_by : (mask p : ℕ) → bit_and (mask / 2 ^ p) 1 ≡ 1 → has mask p ≡ true
-has_by mask p h = has_true mask p (sym (and_mask (mask / 2 ^ p) 1) ∙ h)
-
-pub has_not_by : (mask p : ℕ) → (bit_and (mask / 2 ^ p) 1 ≡ 1 → ⊥) → has mask p ≡ false
-has_not_by mask p h = ne_eqb (bit_at mask p) 1 (λ e. h (and_mask (mask / 2 ^ p) 1 ∙ e))
-
 below_by : (mask n : ℕ) → mask / 2 ^ n ≡ 0 → mask < 2 ^ n
 below_by mask n h = let m : mask % 2 ^ n < 2 ^ n = mod_below mask (2 ^ n) (pow_pos n) in let z : mask / 2 ^ n * 2 ^ n ≡ 0 = ap (λ (k : ℕ). k * 2 ^ n) h ∙ omega arith in omega (arith, shr_split mask n)
 
@@ -91,13 +80,25 @@ in_past mask w (suc k) small =
 pub in_min : (mask n w : ℕ) → mask < 2 ^ w → in_mask mask n ≡ in_mask mask (min n w)
 in_min mask n w small = elim (cases_lt n w) [ inl h ↦ (let e : n ≡ min n w = omega arith in ap (in_mask mask) e) | inr h ↦ (let e : n ≡ w + (n - w) = omega arith in let m : w ≡ min n w = omega arith in ap (in_mask mask) e ∙ in_past mask w (n - w) small ∙ ap (in_mask mask) m) ]
 
--- one place further
-pub in_more : (mask p : ℕ) → in_mask mask (p + 1) ≡ in_mask mask p ++ cond (has mask p) (p ∷ []) []
-in_more mask p = ap (in_mask mask) (add-one p) ∙ pool_suc (has mask) p
-
 -- 2 to a power that is as large at least
 pub pow_le : (i j : ℕ) → i ≤ j → 2 ^ i ≤ 2 ^ j
 pow_le i j le = elim (cases_lt i j) [ inl h ↦ (let q : 2 ^ i < 2 ^ j = pow_below i j h in omega arith) | inr h ↦ (let e : i ≡ j = omega arith in omega (arith, ap (λ (k : ℕ). 2 ^ k) e)) ]
 
-pub askable_by : (count place above : ℕ) → place < count → above < 2 ^ count → askable count place above ≡ not (has above place)
-askable_by count place above lt small = ap (λ (b : Bool). b && (ltb above (2 ^ count) && not (has above place))) (lt-ltb place count lt) ∙ ap (λ (b : Bool). b && not (has above place)) (lt-ltb above (2 ^ count) small)
+-- a mask has as many bits as places
+bits_in : (mask n : ℕ) → ones (mask % 2 ^ n) ≡ length (in_mask mask n)
+bits_in mask zero = let z : mask % 2 ^ zero ≡ 0 = omega arith in ap ones z ∙ ones-ones 0
+bits_in mask (suc n) =
+    let s : 1 + n ≡ suc n = omega arith in
+    let split : mask % 2 ^ suc n ≡ bit_at mask n * 2 ^ n + mask % 2 ^ n = ap (λ (k : ℕ). mask % 2 ^ k) (sym s) ∙ mod-pow-add mask 1 n in
+    ap ones split ∙ ones_cat n (bit_at mask n) (mask % 2 ^ n) (mod_below mask (2 ^ n) (pow_pos n)) ∙ go (cases_lt (bit_at mask n) 1) (bits_in mask n) ∙ sym (ap length (pool_suc (has mask) n))
+  where
+    go : (bit_at mask n < 1) ⊎ (1 ≤ bit_at mask n) → ones (mask % 2 ^ n) ≡ length (in_mask mask n) → ones (bit_at mask n) + ones (mask % 2 ^ n) ≡ length (in_mask mask n ++ cond (has mask n) (n ∷ []) [])
+    go (inl h) ih =
+        let bit : bit_at mask n ≡ 0 = omega arith in
+        rw (has_false mask n bit) (omega (arith, ap ones bit ∙ ones-ones 0, length-append (in_mask mask n) []))
+    go (inr h) ih =
+        let bit : bit_at mask n ≡ 1 = omega arith in
+        rw (has_true mask n bit) (omega (arith, ap ones bit ∙ ones-ones 1, length-append (in_mask mask n) (n ∷ [])))
+
+pub ones_in : (mask n : ℕ) → mask < 2 ^ n → ones mask ≡ length (in_mask mask n)
+ones_in mask n small = ap ones (sym (mod-eq_of_lt small)) ∙ bits_in mask n

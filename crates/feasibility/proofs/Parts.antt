@@ -1,13 +1,9 @@
 -- The sum of r[j] over the segments of a segmented row, place by place. Assumes nothing.
-use Rattle.std.proofs.Common.{◌≡◌, ℕ, zero, suc, ◌+◌, ◌-◌, ◌<◌, ◌≤◌, true, leb, List, Some, None, Option, sym, refl, ap, ◌∙◌, inl, inr, arith}
-use Rattle.std.proofs.lemmas.Bool.{cases_lt, and_parts, leb-true, cond-true}
-use Rattle.model.specs.Segments.{most_gaps}
-use Rattle.model.specs.SegmentedRows.{segment_cost, segments_from, segments_of, well_formed, segmented_shape, segmented_kind}
+use Rattle.std.proofs.Common.{◌≡◌, ℕ, zero, suc, ◌+◌, ◌-◌, ◌<◌, ◌≤◌, Some, None, Option, sym, refl, ap, ◌∙◌, inl, inr, arith}
+use Rattle.std.proofs.lemmas.Bool.{cases_lt}
+use Rattle.model.specs.SegmentedRows.{segment_cost, segments_from, segments_of}
 use Rattle.model.specs.declared.segmented.Segmented.{Segmented}
-use Rattle.curves.specs.Curves.{Workload}
-use Rattle.feasibility.specs.Masks.{row_of, rows_in, lawful_question, asked}
-use Rattle.feasibility.specs.Pieces.{plus, sum_of, up_to, part, piecewise_answers}
-use Rattle.feasibility.proofs.Questions.{answers_if}
+use Rattle.feasibility.specs.Pieces.{plus, sum_of}
 
 plus_assoc : (o p q : Option ℕ) → plus o (plus p q) ≡ plus (plus o p) q
 plus_assoc None p q = refl
@@ -29,9 +25,6 @@ module _ (r : ℕ → Option ℕ) (x : Segmented) where
   parts_below zero = Some 0
   parts_below (suc n) = plus (parts_below n) (r (segment_cost x n))
 
-  pub parts_more : (j : ℕ) → parts_below (j + 1) ≡ plus (parts_below j) (r (segment_cost x j))
-  parts_more j = ap parts_below (let e : j + 1 ≡ suc j = omega arith in e)
-
   -- a missing part is missing in the sum
   pub parts_none : (j n : ℕ) → r (segment_cost x j) ≡ None → j < n → parts_below n ≡ None
   parts_none j zero e l = absurd (omega arith)
@@ -52,19 +45,3 @@ module _ (r : ℕ → Option ℕ) (x : Segmented) where
   pub all_parts : 1 ≤ x.count → parts_below x.count ≡ sum_of r (segments_of x)
   all_parts some =
       ap parts_below (let e : x.count ≡ suc ((x.count - 1) + 0) = omega arith in e) ∙ sym (parts_from (x.count - 1) 0) ∙ plus_zero (sum_of r (segments_of x))
-
--- ---- the piecewise test, asked about a place of a table
-
-pub some_segments : (x : Segmented) → segmented_kind.lawful x ≡ true → 1 ≤ x.count
-some_segments x law = leb-true 1 x.count (and_parts (leb 1 x.count) _ (and_parts (well_formed x) _ law).0).0
-
-module _ (w : Workload Segmented) (rows : List Segmented) (place above : ℕ) (ok : lawful_question segmented_kind rows place above ≡ true) where
-  -- S and all r[j] of the row together
-  abbrev pub whole_bound : Segmented → Option ℕ
-  whole_bound x = plus (Some (most_gaps (segments_of x))) (sum_of (part w.ticks x.deadline (rows_in segmented_kind rows above)) (segments_of x))
-
-  pub asked_is : (x : Segmented) → x ≡ row_of segmented_kind rows place → asked segmented_kind (piecewise_answers segmented_shape w) rows place above ≡ up_to x.deadline (whole_bound x)
-  asked_is x e =
-      let y = row_of segmented_kind rows place in
-      answers_if segmented_kind rows place above (up_to y.deadline (whole_bound y)) None ∙ cond-true (lawful_question segmented_kind rows place above) (up_to y.deadline (whole_bound y)) None ok
-      ∙ ap (λ z. up_to z.deadline (whole_bound z)) (sym e)

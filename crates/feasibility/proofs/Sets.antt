@@ -1,62 +1,79 @@
--- The rows of a set, as a loop over the places of the table goes through them. Assumes nothing.
-use Rattle.std.proofs.Common.{◌≡◌, ℕ, zero, suc, ◌+◌, ◌^◌, ◌<◌, min, Bool, true, false, cond, ◌&&◌, List, [], ◌∷◌, ◌++◌, map, length, sym, refl, ap, ◌∙◌, inl, inr, append-nil, arith}
-use Rattle.std.proofs.lemmas.List.{map-append}
-use Rattle.std.proofs.lemmas.List.Sums.{sum_by-append, sum_by-cons}
-use Rattle.std.proofs.lemmas.Bool.{cases_lt, and_from, and_left, and_right}
-use Rattle.model.specs.Rows.{Kind, all_lawful}
+-- The rows of a set, as a chain over the numbered rows of the table gives them. Assumes nothing.
+use Rattle.std.proofs.Common.{◌≡◌, ℕ, zero, suc, ◌+◌, ◌*◌, ◌^◌, ◌<◌, ◌≤◌, min, Bool, true, false, cond, ◌&&◌, List, [], ◌∷◌, ◌++◌, map, length, take, filter, sum_by, sym, refl, ap, ◌∙◌, ap₂, inl, inr, arith, take-suc, length-take-le, length-take}
+use Rattle.std.specs.List.{enumerate_from, list_all}
+use Rattle.std.proofs.lemmas.List.{map-append, take_min}
+use Rattle.std.proofs.lemmas.List.Elements.{filter-append}
+use Rattle.std.proofs.lemmas.List.FromFn.{length-enumerate_from}
+use Rattle.std.proofs.lemmas.List.Sums.{sum_by-cons, length-filter, count_by-le-length}
+use Rattle.std.proofs.lemmas.Bool.{cases_lt}
+use Rattle.model.specs.Rows.{Kind, all_lawful, limit}
+use Rattle.curves.specs.Curves.{Workload, CurveRules, CurveEdges}
 use Rattle.feasibility.specs.Masks.{row_of, has, in_mask, rows_in}
 use Rattle.feasibility.specs.Windows.{demand}
-use Rattle.feasibility.proofs.Masks.{in_more, in_min}
-use Rattle.feasibility.specs.Above.{lawful_append}
+use Rattle.feasibility.proofs.Masks.{in_min, pool_suc}
+
+-- a list that is numbered from n on, with one item more
+numbered_more : {X : Type 0} (n : ℕ) (xs : List X) (x : X) → enumerate_from n (xs ++ x ∷ []) ≡ enumerate_from n xs ++ (n + length xs, x) ∷ []
+numbered_more n [] x = ap (λ (k : ℕ). (k, x) ∷ []) (omega arith)
+numbered_more n (y ∷ xs) x =
+    ap (λ l. (n, y) ∷ l) (numbered_more (n + 1) xs x ∙ ap (λ (k : ℕ). enumerate_from (n + 1) xs ++ (k, x) ∷ []) (omega arith))
 
 module _ {R : Type 0} (kind : Kind R) (rows : List R) (mask : ℕ) where
-  -- the rows of the set at places below n
-  abbrev pub rows_below : ℕ → List R
-  rows_below n = map (row_of kind rows) (in_mask mask n)
+  abbrev pub without : List (ℕ × R) → List R
+  without ps = map {A = ℕ × R} (λ p. p.1) ps
+
+  -- those of the first n rows that are in the set, with their places
+  abbrev pub picked : ℕ → List (ℕ × R)
+  picked n = filter (λ p. has mask p.0) (enumerate_from 0 (take n rows))
+
+  first_rows : (n : ℕ) → n ≤ length rows → without (picked n) ≡ map (row_of kind rows) (in_mask mask n)
+  first_rows zero l = refl
+  first_rows (suc n) l =
+      let x : R = row_of kind rows n in
+      let before : List (ℕ × R) = enumerate_from 0 (take n rows) in
+      let last : enumerate_from 0 (take (suc n) rows) ≡ before ++ (n, x) ∷ [] =
+      ap (enumerate_from 0) (take-suc rows n kind.blank (omega arith)) ∙ numbered_more 0 (take n rows) x
+      ∙ ap (λ (k : ℕ). before ++ (k, x) ∷ []) (omega (arith, length-take-le n rows (omega arith))) in
+      ap (λ (l : List (ℕ × R)). without (filter (λ p. has mask p.0) l)) last ∙ ap without (filter-append (λ p. has mask p.0) before ((n, x) ∷ []))
+      ∙ map-append {A = ℕ × R} (λ p. p.1) (picked n) (cond (has mask n) ((n, x) ∷ []) []) ∙ ap₂ (λ (a b : List R). a ++ b) (first_rows n (omega arith)) (here (has mask n))
+      ∙ sym (ap (map (row_of kind rows)) (pool_suc (has mask) n) ∙ map-append (row_of kind rows) (in_mask mask n) (cond (has mask n) (n ∷ []) []))
+    where
+      here : (b : Bool) → without (cond b ((n, row_of kind rows n) ∷ []) []) ≡ map (row_of kind rows) (cond b (n ∷ []) [])
+      here true = refl
+      here false = refl
 
   -- a set of 32 bits has no place from 32 on
-  pub all_rows : mask < 2 ^ 32 → rows_below (min (length rows) 32) ≡ rows_in kind rows mask
-  all_rows small = ap (map (row_of kind rows)) (sym (in_min mask (length rows) 32 small))
+  pub picked_rows : mask < 2 ^ 32 → without (picked 32) ≡ rows_in kind rows mask
+  picked_rows small =
+      ap (λ (l : List R). without (filter (λ p. has mask p.0) (enumerate_from 0 l))) (sym (take_min 32 rows) ∙ ap (λ (k : ℕ). take k rows) (omega arith))
+      ∙ first_rows (min (length rows) 32) (omega arith) ∙ ap (map (row_of kind rows)) (sym (in_min mask (length rows) 32 small))
 
-  pub rows_more : (p : ℕ) → rows_below (p + 1) ≡ rows_below p ++ map (row_of kind rows) (cond (has mask p) (p ∷ []) [])
-  rows_more p = ap (map (row_of kind rows)) (in_more mask p) ∙ map-append (row_of kind rows) (in_mask mask p) (cond (has mask p) (p ∷ []) [])
+  pub picked_few : length (picked 32) ≤ 32
+  picked_few =
+      let numbered : List (ℕ × R) = enumerate_from 0 (take 32 rows) in
+      omega (arith, length-filter (λ p. has mask p.0) numbered, count_by-le-length (λ p. has mask p.0) numbered, length-enumerate_from 0 (take 32 rows), length-take 32 rows)
 
-  pub rows_yes : (p : ℕ) → has mask p ≡ true → rows_below (p + 1) ≡ rows_below p ++ row_of kind rows p ∷ []
-  rows_yes p h = rows_more p ∙ ap (λ (b : Bool). rows_below p ++ map (row_of kind rows) (cond b (p ∷ []) [])) h
+  all_of : (ps : List (ℕ × R)) → list_all (λ p. kind.lawful p.1) ps ≡ all_lawful kind (without ps)
+  all_of [] = refl
+  all_of (p ∷ ps) = ap (λ b. kind.lawful p.1 && b) (all_of ps)
 
-  pub rows_no : (p : ℕ) → has mask p ≡ false → rows_below (p + 1) ≡ rows_below p
-  rows_no p h = rows_more p ∙ ap (λ (b : Bool). rows_below p ++ map (row_of kind rows) (cond b (p ∷ []) [])) h ∙ append-nil (rows_below p)
+  pub picked_lawful : mask < 2 ^ 32 → list_all (λ p. kind.lawful p.1) (picked 32) ≡ all_lawful kind (rows_in kind rows mask)
+  picked_lawful small = all_of (picked 32) ∙ ap (all_lawful kind) (picked_rows small)
 
-  module _ (ticks : R → ℕ → ℕ) (t : ℕ) where
-    pub demand_yes : (p : ℕ) → has mask p ≡ true → demand ticks (rows_below (p + 1)) t ≡ demand ticks (rows_below p) t + ticks (row_of kind rows p) t
-    demand_yes p h =
-        let e : demand ticks (rows_below p ++ row_of kind rows p ∷ []) t ≡ demand ticks (rows_below p) t + demand ticks (row_of kind rows p ∷ []) t = sum_by-append (λ y. ticks y t) (rows_below p) (row_of kind rows p ∷ []) in
-        ap (λ A. demand ticks A t) (rows_yes p h) ∙ omega (arith, e, sum_by-cons (λ y. ticks y t) (row_of kind rows p) [])
+  module _ (w : Workload R) (rules : CurveRules kind w) (edges : CurveEdges kind w) (t : ℕ) where
+    sum_of : (ps : List (ℕ × R)) → sum_by (λ p. w.ticks p.1 t) ps ≡ demand w.ticks (without ps) t
+    sum_of [] = refl
+    sum_of (p ∷ ps) = omega (arith, sum_by-cons (λ p. w.ticks p.1 t) p ps, sum_by-cons (λ y. w.ticks y t) p.1 (without ps), sum_of ps)
 
-    pub demand_no : (p : ℕ) → has mask p ≡ false → demand ticks (rows_below (p + 1)) t ≡ demand ticks (rows_below p) t
-    demand_no p h = ap (λ A. demand ticks A t) (rows_no p h)
+    pub picked_demand : mask < 2 ^ 32 → sum_by (λ p. w.ticks p.1 t) (picked 32) ≡ demand w.ticks (rows_in kind rows mask) t
+    picked_demand small = sum_of (picked 32) ∙ ap (λ A. demand w.ticks A t) (picked_rows small)
 
-  pub lawful_yes : (p : ℕ) → all_lawful kind (rows_below p) ≡ true → has mask p ≡ true → kind.lawful (row_of kind rows p) ≡ true → all_lawful kind (rows_below (p + 1)) ≡ true
-  lawful_yes p all h law =
-      ap (all_lawful kind) (rows_yes p h) ∙ lawful_append kind (rows_below p) (row_of kind rows p ∷ [])
-      ∙ and_from (all_lawful kind (rows_below p)) (all_lawful kind (row_of kind rows p ∷ [])) all (and_from (kind.lawful (row_of kind rows p)) true law refl)
+    ticks_small : (x : R) → w.ticks x t ≤ 4000000
+    ticks_small x = elim (cases_lt t limit) [ inl l ↦ rules.small x t (omega arith) | inr g ↦ omega (arith, edges.flat x t g, rules.small x limit (omega arith)) ]
 
-  pub lawful_no : (p : ℕ) → all_lawful kind (rows_below p) ≡ true → has mask p ≡ false → all_lawful kind (rows_below (p + 1)) ≡ true
-  lawful_no p all h = ap (all_lawful kind) (rows_no p h) ∙ all
+    sum_small : (ps : List (ℕ × R)) → sum_by (λ p. w.ticks p.1 t) ps ≤ length ps * 4000000
+    sum_small [] = omega arith
+    sum_small (p ∷ ps) = omega (arith, sum_by-cons (λ p. w.ticks p.1 t) p ps, ticks_small p.1, sum_small ps)
 
-  -- an unlawful row of the set
-  pub unlawful : (p : ℕ) → has mask p ≡ true → kind.lawful (row_of kind rows p) ≡ false → (n : ℕ) → p < n → all_lawful kind (rows_below n) ≡ false
-  unlawful p h law zero l = absurd (omega arith)
-  unlawful p h law (suc n) l =
-      let next : n + 1 ≡ suc n = omega arith in
-      let split : all_lawful kind (rows_below (suc n)) ≡ (all_lawful kind (rows_below n) && all_lawful kind (map (row_of kind rows) (cond (has mask n) (n ∷ []) []))) =
-      ap (λ k. all_lawful kind (rows_below k)) (sym next) ∙ ap (all_lawful kind) (rows_more n) ∙ lawful_append kind (rows_below n) (map (row_of kind rows) (cond (has mask n) (n ∷ []) [])) in
-      elim (cases_lt p n) [
-        | inl before ↦ split ∙ and_left (all_lawful kind (rows_below n)) (all_lawful kind (map (row_of kind rows) (cond (has mask n) (n ∷ []) []))) (unlawful p h law n before)
-        | inr here ↦
-            let same : p ≡ n = omega arith in
-            let last : all_lawful kind (map (row_of kind rows) (cond (has mask n) (n ∷ []) [])) ≡ false =
-            ap (λ k. all_lawful kind (map (row_of kind rows) (cond (has mask k) (k ∷ []) []))) (sym same) ∙ ap (λ (b : Bool). all_lawful kind (map (row_of kind rows) (cond b (p ∷ []) []))) h
-            ∙ and_left (kind.lawful (row_of kind rows p)) true law in
-            split ∙ and_right (all_lawful kind (rows_below n)) (all_lawful kind (map (row_of kind rows) (cond (has mask n) (n ∷ []) []))) last
-      ]
+    pub picked_small : sum_by (λ p. w.ticks p.1 t) (picked 32) < 2 ^ 37
+    picked_small = omega (arith, sum_small (picked 32), picked_few)

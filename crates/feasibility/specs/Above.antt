@@ -4,12 +4,13 @@ use Rattle.std.proofs.Common.{sym, ap, ap₂, ◌∙◌, arith}
 use mathlib.Core.List.Permᴰ
 use Rattle.std.proofs.lemmas.List.Sums.{sum_by-cons, sum_by-append}
 use Rattle.std.proofs.lemmas.Bool.{and_parts}
+use Rattle.std.proofs.lemmas.Option.{slice_get_within}
 use Rattle.model.specs.Bags.{◌~◌, Part}
 use Rattle.model.specs.Rows.{Kind, limit, all_lawful}
 use Rattle.model.specs.Runs.{Task, Run, ran, Level, above}
 use Rattle.model.specs.LawfulRuns.{Lawful, NoLate}
 use Rattle.curves.specs.Curves.{Workload, CurveRules}
-use Rattle.model.proofs.Ticks.{none_some, nth_inside, summed, higher}
+use Rattle.model.proofs.Ticks.{summed, higher}
 
 -- ---- rows in another order, and a part of them
 
@@ -51,7 +52,7 @@ sum_part c {A} {B} part = omega (arith, sum_by-append c B part.rest, sum_reorder
 
 pub cond_some : (b : Bool) (o : Option ℕ) (t : ℕ) → cond b o None ≡ Some t → (b ≡ true) × (o ≡ Some t)
 cond_some true o t e = (refl, e)
-cond_some false o t e = absurd (none_some None t refl e)
+cond_some false o t e = absurd (cc)
 
 -- ---- what the levels above run
 
@@ -59,5 +60,5 @@ pub above_bound : {R : Type 0} (kind : Kind R) (w : Workload R) → CurveRules k
     → ((i : ℕ) (other : Task R) → i < k → Level run i other → NoLate kind run i other) → (s t : ℕ) → t ≤ limit
     → higher run.ticks k (s + t) ≤ higher run.ticks k s + sum_by (λ y. w.ticks y t) (above run k)
 above_bound kind w rules run law k task at no_late s t l =
-    summed (λ y. w.ticks y t) run.tasks k (λ i. ran run.ticks i s) (λ i. ran run.ticks i (s + t)) (omega (arith, nth_inside run.tasks k task at))
+    summed (λ y. w.ticks y t) run.tasks k (λ i. ran run.ticks i s) (λ i. ran run.ticks i (s + t)) (omega (arith, slice_get_within run.tasks k task at))
     (λ i other i<k there. omega (arith, rules.holds run law i other there (no_late i other i<k there) s t l))

@@ -2,11 +2,11 @@
 use Rattle.std.specs.Prelude.{◌≡◌, ℕ, ◌≤◌, Bool, true, false, cond, ◌⊎◌, List, Some, None, Option, nat_le, refl}
 use Rattle.std.proofs.Common.{ap₂, inl, inr, ⊎_elim, arith}
 use Rattle.std.proofs.lemmas.Bool.{leb-true, leb-false}
+use Rattle.std.proofs.lemmas.Option.{same_Some}
 use Rattle.model.specs.Rows.{Kind}
 use Rattle.model.specs.Runs.{above}
 use Rattle.feasibility.specs.Tests.{Answers, TestRules, AtMost}
 use Rattle.feasibility.specs.Betters.{better, better_answers}
-use Rattle.model.proofs.Ticks.{some_same, none_some}
 
 pub better_is : (o p : Option ℕ) (t : ℕ) → better o p ≡ Some t → (o ≡ Some t) ⊎ (p ≡ Some t)
 better_is None p t e = inr e
@@ -19,16 +19,16 @@ better_is (Some a) (Some b) t e = go (nat_le a b) e
 
 -- the two answers, one of which is at most t
 pub better_most : (o p : Option ℕ) (t : ℕ) → AtMost o t ⊎ AtMost p t → AtMost (better o p) t
-better_most None p t (inl (c, e, l)) = absurd (none_some None c refl e)
+better_most None p t (inl (c, e, l)) = absurd (cc)
 better_most None p t (inr h) = h
 better_most (Some a) None t (inl h) = h
-better_most (Some a) None t (inr (c, e, l)) = absurd (none_some None c refl e)
+better_most (Some a) None t (inr (c, e, l)) = absurd (cc)
 better_most (Some a) (Some b) t h = go (nat_le a b) refl
   where
     small : (a ≤ t) ⊎ (b ≤ t)
     small = elim h [
-      | inl (c, e, l) ↦ inl (omega (arith, some_same a c e))
-      | inr (c, e, l) ↦ inr (omega (arith, some_same b c e))
+      | inl (c, e, l) ↦ inl (omega (arith, same_Some a c e))
+      | inr (c, e, l) ↦ inr (omega (arith, same_Some b c e))
     ]
 
     go : (v : Bool) → nat_le a b ≡ v → AtMost (cond v (Some a) (Some b)) t

@@ -1,60 +1,40 @@
 -- The piecewise test over any curve for segmented rows keeps the rules of a test. Assumes nothing.
-use Rattle.std.specs.Prelude.{◌≡◌, ℕ, suc, ◌+◌, ◌<◌, ◌≤◌, Bool, true, false, cond, ◌&&◌, leb, List, [], ◌∷◌, length, Some, None, sum_by, Option, nat_le, refl}
+use Rattle.std.specs.Prelude.{◌≡◌, ℕ, suc, ◌+◌, ◌<◌, ◌≤◌, Bool, true, cond, ◌&&◌, leb, List, ◌∷◌, length, Some, None, sum_by, Option, nat_le, refl}
 use Rattle.std.proofs.Common.{ap, ap₂, sym, subst, ◌∙◌, inl, inr, arith}
 use Rattle.std.proofs.Math.Path.{fun_ext}
-use Rattle.std.specs.List.{AllByRecursion}
 use Rattle.std.proofs.lemmas.Bool.{leb-true, le-leb, and_parts, and_from}
+use Rattle.std.proofs.lemmas.Option.{same_Some}
 use Rattle.model.specs.Bags.{◌~◌, Part}
-use Rattle.model.specs.Patterns.{Pattern, final, step}
+use Rattle.model.specs.Patterns.{final, step}
 use Rattle.model.specs.Rows.{Kind, Bounds, all_lawful}
-use Rattle.model.specs.Segments.{Segments, last, more, all_ticks, most_gaps, keeps_ranges, Shape, segmented}
-use Rattle.model.specs.Runs.{Job, Task, Run, Done, Unmet, ran, Level, Kept, above}
+use Rattle.model.specs.Segments.{Segments, last, more, all_ticks, most_gaps, Shape, segmented}
+use Rattle.model.specs.Runs.{Task, Run, Done, Unmet, ran, Level, Kept, above}
 use Rattle.model.specs.LawfulRuns.{Lawful, NoLate}
 use Rattle.curves.specs.Curves.{Workload, CurveRules}
+use Rattle.curves.specs.SegmentWindows.{Fits, all_fit}
 use Rattle.feasibility.specs.Tests.{TestRules, AtMost}
 use Rattle.feasibility.specs.Windows.{least, fits}
 use Rattle.feasibility.specs.Pieces.{plus, sum_of, up_to, part, piecewise, piecewise_answers}
 use Rattle.model.proofs.Marks.{Counts, met}
-use Rattle.model.proofs.Ticks.{some_same, none_some, counts, higher, higher_up, busy}
+use Rattle.model.proofs.Ticks.{counts, higher, higher_up, busy}
 use Rattle.model.proofs.Jobs.{EndIn, all_in_time}
 use Rattle.feasibility.specs.Least.{least_found, least_sooner}
 use Rattle.feasibility.specs.Above.{sum_reordered, lawful_reordered, sum_part, lawful_part, cond_some, above_bound}
 
--- ---- patterns that keep the ranges of segments
-
-abbrev pub Fits : Segments → Pattern → Type 0
-Fits (last c) (final k) = k ≤ c
-Fits (last c) (step k w p) = ⊥
-Fits (more c lo hi s) (final k) = ⊥
-Fits (more c lo hi s) (step k w p) = (k ≤ c) × (lo ≤ w) × (w ≤ hi) × Fits s p
-
-false_true : {X : Type 0} → false ≡ true → X
-false_true e = absurd (let z : ◌≡◌ {A = ℕ} 0 1 = cc in omega arith)
-
-kept_fits : (s : Segments) (p : Pattern) → keeps_ranges s p ≡ true → Fits s p
-kept_fits (last c) (final k) e = leb-true k c e
-kept_fits (last c) (step k w p) e = false_true e
-kept_fits (more c lo hi s) (final k) e = false_true e
-kept_fits (more c lo hi s) (step k w p) e =
-    let (a, e₁) = and_parts (nat_le k c) (nat_le lo w && (nat_le w hi && keeps_ranges s p)) e in
-    let (b, e₂) = and_parts (nat_le lo w) (nat_le w hi && keeps_ranges s p) e₁ in
-    let (d, e₃) = and_parts (nat_le w hi) (keeps_ranges s p) e₂ in
-    (leb-true k c a, leb-true lo w b, leb-true w hi d, kept_fits s p e₃)
-
 -- ---- sums that may be missing
 
 pub plus_parts : (o p : Option ℕ) (b : ℕ) → plus o p ≡ Some b → (t u : ℕ) × (o ≡ Some t) × (p ≡ Some u) × (b ≡ t + u)
-plus_parts None p b e = absurd (none_some None b refl e)
-plus_parts (Some t) None b e = absurd (none_some None b refl e)
-plus_parts (Some t) (Some u) b e = (t, u, refl, refl, sym (some_same (t + u) b e))
+plus_parts None p b e = absurd (cc)
+plus_parts (Some t) None b e = absurd (cc)
+plus_parts (Some t) (Some u) b e = (t, u, refl, refl, sym (same_Some (t + u) b e))
 
 pub plus_most : (o p : Option ℕ) (b d : ℕ) → AtMost o b → AtMost p d → AtMost (plus o p) (b + d)
 plus_most o p b d (t, e, l) (u, e', l') = (t + u, ap₂ plus e e', omega arith)
 
 pub up_to_parts : (d : ℕ) (o : Option ℕ) (b : ℕ) → up_to d o ≡ Some b → (o ≡ Some b) × (b ≤ d)
-up_to_parts d None b e = absurd (none_some None b refl e)
+up_to_parts d None b e = absurd (cc)
 up_to_parts d (Some t) b e =
-    let (l, e') = cond_some (nat_le t d) (Some t) b e in (e', omega (arith, leb-true t d l, some_same t b e'))
+    let (l, e') = cond_some (nat_le t d) (Some t) b e in (e', omega (arith, leb-true t d l, same_Some t b e'))
 
 pub up_to_most : (d : ℕ) (o : Option ℕ) (b : ℕ) → AtMost o b → b ≤ d → AtMost (up_to d o) b
 up_to_most d o b (t, e, l) h =
@@ -130,7 +110,7 @@ module _ {R : Type 0} (shape : Shape R) (w : Workload R) (rules : CurveRules (se
         in_deadline = within;
         pieces = u;
         found = e₄;
-        is = omega (arith, some_same (most_gaps (shape.segments x)) t e₃);
+        is = omega (arith, same_Some (most_gaps (shape.segments x)) t e₃);
       }
 
   -- a part covers its segment and what the rows above run in it
@@ -163,10 +143,6 @@ module _ {R : Type 0} (shape : Shape R) (w : Workload R) (rules : CurveRules (se
       let covers = sum_covers (part_of x A) (λ c t e. omega (arith, part_enough x A c t e)) (shape.segments x) ok.pieces ok.found in
       (omega (arith, ok.is, (kind.r1 x ok.row_lawful).some_cost), ok.in_deadline)
 
-  all_fit : (x : R) (jobs : List Job) → AllByRecursion (λ j. keeps_ranges (shape.segments x) j.pattern ≡ true) jobs → AllByRecursion (λ j. Fits (shape.segments x) j.pattern) jobs
-  all_fit x [] a = tt
-  all_fit x (j ∷ js) (a, rest) = (kept_fits (shape.segments x) j.pattern a, all_fit x js rest)
-
   holds : (run : Run R) → Lawful kind run → (k : ℕ) (task : Task R) → Level run k task
       → ((i : ℕ) (other : Task R) → i < k → Level run i other → NoLate kind run i other)
       → (b : ℕ) → piecewise shape w.ticks task.row (above run k) ≡ Some b → Kept run k task b
@@ -185,7 +161,7 @@ module _ {R : Type 0} (shape : Shape R) (w : Workload R) (rules : CurveRules (se
       let kept : Kept run k task (most_gaps (shape.segments x) + ok.pieces) =
       all_in_time f h (Fits (shape.segments x)) H (shape.period x) (most_gaps (shape.segments x) + ok.pieces) (omega (arith, ok.is, ok.in_deadline, limits))
       (pieces_in_time (part_of x (above run k)) f h (counts run.ticks k) (higher_up run.ticks k) H enough (shape.segments x) ok.pieces ok.found)
-      task.jobs 0 0 (omega arith) mine.spaced (all_fit x task.jobs mine.allowed) (busy kind run law k task at) in
+      task.jobs 0 0 (omega arith) mine.spaced (all_fit (shape.segments x) task.jobs mine.allowed) (busy kind run law k task at) in
       subst (λ y. Kept run k task y) (sym ok.is) kept
 
   lawful_rows : (x : R) (A : List R) (b : ℕ) → piecewise shape w.ticks x A ≡ Some b → all_lawful (segmented shape) (x ∷ A) ≡ true

@@ -26,3 +26,7 @@ NoneSpelled text before = (bytes : List ℕ) → length bytes ≤ length before 
 
 abbrev pub Decodes : List ℕ → List ℕ → List ℕ → Option ℕ → Type 0
 Decodes text before after answer = MatchOption answer (NoneSpelled text before) (Written text before after)
+
+-- No bytes at all are spelled by the text.
+abbrev pub Unspelled : List ℕ → Type 0
+Unspelled text = (bytes : List ℕ) → Spells text bytes → ⊥

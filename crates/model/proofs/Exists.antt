@@ -2,13 +2,13 @@
 use Rattle.std.proofs.Common.{◌≡◌, ℕ, zero, suc, ◌+◌, ◌<◌, ◌≤◌, ◌⊎◌, List, [], ◌∷◌, ◌++◌, length, Some, None, Option, sym, refl, ap, ◌∙◌, subst, inl, inr, arith, length-append}
 use Rattle.std.specs.List.{slice_get, AllByRecursion}
 use Rattle.std.proofs.lemmas.Bool.{cases_lt}
-use Rattle.std.proofs.lemmas.Option.{slice_get_past}
+use Rattle.std.proofs.lemmas.Option.{slice_get_past, none-some, same_Some, slice_get_within}
 use Rattle.model.specs.Patterns.{Pattern, final, step}
 use Rattle.model.specs.Runs.{Job, Task, Run, hit, ran, Done, Ends, Unmet, Waits, start, JobsWait, Waiting}
 use Rattle.model.specs.Rows.{Kind}
 use Rattle.model.specs.LawfulRuns.{LawfulTask, Lawful}
 use Rattle.model.proofs.Marks.{Counts, done_once, done_by, ends_once, ends_by, ends_after, waits_after}
-use Rattle.model.proofs.Ticks.{some_same, none_some, nth_here, nth_inside, counts}
+use Rattle.model.proofs.Ticks.{nth_here, counts}
 use Rattle.model.proofs.Work.{jobs_after}
 
 -- ---- whether something waits is decided
@@ -107,11 +107,11 @@ module _ {R : Type 0} (tasks : List (Task R)) where
   waiting? xs i t = go (slice_get tasks i) refl
     where
       go : (o : Option (Task R)) → slice_get tasks i ≡ o → EitherWay (Waiting (with_ticks xs) i t)
-      go None e = inr (λ x. let (task, at, w) = x in none_some (slice_get tasks i) task e at)
+      go None e = inr (λ x. let (task, at, w) = x in none-some task (sym e ∙ at))
       go (Some task) e =
           elim (jobs_wait? (ran xs i) (counts xs i) task.jobs 0 t) [
             | inl w ↦ inl (task, e, w)
-            | inr none ↦ inr (λ x. let (other, at, w) = x in none (subst (λ (y : Task R). JobsWait (ran xs i) 0 y.jobs t) (some_same other task (sym at ∙ e)) w))
+            | inr none ↦ inr (λ x. let (other, at, w) = x in none (subst (λ (y : Task R). JobsWait (ran xs i) 0 y.jobs t) (same_Some other task (sym at ∙ e)) w))
           ]
 
 -- the first number at which something holds
@@ -139,10 +139,10 @@ nth_end (y ∷ ys) x = nth_end ys x
 
 nth_alike : {X : Type 0} (xs ys : List X) → ((t : ℕ) → slice_get xs t ≡ slice_get ys t) → xs ≡ ys
 nth_alike [] [] same = refl
-nth_alike [] (y ∷ ys) same = absurd (none_some None y refl (same 0))
-nth_alike (x ∷ xs) [] same = absurd (none_some None x refl (sym (same 0)))
+nth_alike [] (y ∷ ys) same = absurd (cc (same 0))
+nth_alike (x ∷ xs) [] same = absurd (cc (same 0))
 nth_alike (x ∷ xs) (y ∷ ys) same =
-    let heads = some_same x y (same 0) in
+    let heads = same_Some x y (same 0) in
     let tails = nth_alike xs ys (λ t. same (suc t)) in
     cc
 
@@ -182,11 +182,11 @@ module _ {R : Type 0} (tasks : List (Task R)) where
   chosen xs t =
       elim (first_of (λ i. W xs i t) (λ i. waiting? tasks xs i t) (length tasks)) [
         | inl (i, w, r) ↦ (Some i, (w, r))
-        | inr none ↦ (None, λ i x. let (task, at, w) = x in none i (nth_inside tasks i task at) x)
+        | inr none ↦ (None, λ i x. let (task, at, w) = x in none i (slice_get_within tasks i task at) x)
       ]
 
   built : (H : ℕ) → (xs : List (Option ℕ)) × (length xs ≡ H) × Ruled xs
-  built zero = ([], refl, λ t o e. absurd (none_some None o refl e))
+  built zero = ([], refl, λ t o e. absurd (cc))
   built (suc H) =
       let (xs, len, rules) = built H in
       let (o, r) = chosen xs H in
@@ -198,10 +198,10 @@ module _ {R : Type 0} (tasks : List (Task R)) where
           elim (cases_lt t (length xs)) [
             | inl l ↦ rule_alike xs ys t (λ u y. sym (nth_front xs (o ∷ []) u (omega arith))) p (rules t p (sym (nth_front xs (o ∷ []) t l) ∙ e))
             | inr g ↦ elim (cases_lt (length xs) t) [
-              | inl l ↦ absurd (none_some (slice_get ys t) p (slice_get_past ys t (rw (length-append xs (o ∷ [])) (omega arith))) e)
+              | inl l ↦ absurd (none-some p (sym (slice_get_past ys t (rw (length-append xs (o ∷ [])) (omega arith))) ∙ e))
               | inr h ↦
                   let here : t ≡ length xs = omega arith in
-                  let same : o ≡ p = some_same o p (sym (nth_end xs o) ∙ ap (slice_get ys) (sym here) ∙ e) in
+                  let same : o ≡ p = same_Some o p (sym (nth_end xs o) ∙ ap (slice_get ys) (sym here) ∙ e) in
                   subst (λ q. Rule ys t q) same (subst (λ u. Rule ys u o) (sym here) (rule_alike xs ys (length xs) (λ u y. sym (nth_front xs (o ∷ []) u y)) o r))
             ]
           ]
@@ -227,8 +227,8 @@ ruled kind run law t None e = law.idles t e
 ruled kind run law t (Some i) e = law.runs t i e
 
 all_level : {R : Type 0} (kind : Kind R) (tasks : List (Task R)) → AllByRecursion (λ task. LawfulTask kind task) tasks → (i : ℕ) (task : Task R) → slice_get tasks i ≡ Some task → LawfulTask kind task
-all_level kind [] a i task e = absurd (none_some None task refl e)
-all_level kind (x ∷ xs) a zero task e = subst (λ y. LawfulTask kind y) (some_same x task e) a.0
+all_level kind [] a i task e = absurd (cc)
+all_level kind (x ∷ xs) a zero task e = subst (λ y. LawfulTask kind y) (same_Some x task e) a.0
 all_level kind (x ∷ xs) a (suc i) task e = all_level kind xs a.1 i task e
 
 pub exists : {R : Type 0} (kind : Kind R) (tasks : List (Task R)) → AllByRecursion (λ task. LawfulTask kind task) tasks → (H : ℕ)

@@ -1,6 +1,7 @@
 -- The run that was worked out by hand is lawful, and one of its jobs is late. Assumes nothing.
 use Rattle.std.proofs.Common.{◌≡◌, ℕ, zero, suc, ◌+◌, ◌<◌, ◌≤◌, Some, None, Option, sym, refl, subst, inl, inr, arith}
 use Rattle.std.specs.List.{slice_get}
+use Rattle.std.proofs.lemmas.Option.{same_Some}
 use Rattle.model.specs.Patterns.{final, step}
 use Rattle.model.specs.Runs.{Job, Task, ran, Done, Unmet, Waits, JobsWait, JobEnds, Level, Waiting}
 use Rattle.model.specs.LawfulRuns.{LawfulTask, NoLate}
@@ -9,7 +10,7 @@ use Rattle.model.specs.RunLaws.{Late}
 use Rattle.model.specs.WorkedRun.{upper, lower, worked_run, WorkedRun}
 use Rattle.model.specs.declared.whole.Whole.{Whole}
 use Rattle.model.proofs.Marks.{Counts, rising, done_once}
-use Rattle.model.proofs.Ticks.{some_same, none_some, counts}
+use Rattle.model.proofs.Ticks.{counts}
 use Rattle.model.proofs.LateJobs.{job_ends_once}
 
 module _ (f : ℕ → ℕ) (c : Counts f) where
@@ -55,12 +56,12 @@ lower_second = done_after lower_ran lower_counts 1 3 4 (omega arith) (omega arit
 
 upper_quiet : (t : ℕ) → (2 ≤ t → 1 ≤ upper_ran t) → (5 ≤ t → 2 ≤ upper_ran t) → ¬ Waiting worked_run 0 t
 upper_quiet t met rest (task, at, w) =
-    let mine : JobsWait upper_ran 0 upper.jobs t = subst (λ (y : Task Whole). JobsWait upper_ran 0 y.jobs t) (sym (some_same upper task at)) w in
+    let mine : JobsWait upper_ran 0 upper.jobs t = subst (λ (y : Task Whole). JobsWait upper_ran 0 y.jobs t) (sym (same_Some upper task at)) w in
     elim mine [ inl v ↦ no_wait upper_ran upper_counts 2 1 2 1 3 t upper_first met rest v | inr (e, ends, none) ↦ none ]
 
 lower_quiet : (t : ℕ) → (1 ≤ t → 3 ≤ lower_ran t) → ¬ Waiting worked_run 1 t
 lower_quiet t rest (task, at, w) =
-    let mine : JobsWait lower_ran 0 lower.jobs t = subst (λ (y : Task Whole). JobsWait lower_ran 0 y.jobs t) (sym (some_same lower task at)) w in
+    let mine : JobsWait lower_ran 0 lower.jobs t = subst (λ (y : Task Whole). JobsWait lower_ran 0 y.jobs t) (sym (same_Some lower task at)) w in
     elim mine [ inl v ↦ no_wait lower_ran lower_counts 0 0 1 3 0 t lower_first (λ l. omega arith) rest v | inr (e, ends, none) ↦ none ]
 
 -- ---- tick by tick
@@ -75,50 +76,41 @@ lower_runs : (t : ℕ) → 1 ≤ t → lower_ran t < 3 → ¬ Waiting worked_run
 lower_runs t l lacks quiet =
     ((lower, refl, inl (inr (0, lower_first, record { after = l; lacks = lacks }))), λ j y. subst (λ k. ¬ Waiting worked_run k t) (let e : 0 ≡ j = omega arith in e) quiet)
 
-nobody : {X : Type 0} (i : ℕ) → ◌≡◌ {A = Option (Option ℕ)} (Some None) (Some (Some i)) → X
-nobody i e = absurd (let z : ◌≡◌ {A = ℕ} 0 1 = cc in omega arith)
-
-over : {X : Type 0} (o : Option ℕ) → ◌≡◌ {A = Option (Option ℕ)} None (Some o) → X
-over o e = absurd (let z : ◌≡◌ {A = ℕ} 0 1 = cc in omega arith)
-
 level : (k i t : ℕ) → ◌≡◌ {A = Option (Option ℕ)} (Some (Some k)) (Some (Some i)) → Chosen t k → Chosen t i
 level k i t e is = let same : k ≡ i = cc in subst (λ j. Chosen t j) same is
 
 runs : (t i : ℕ) → slice_get worked_run.ticks t ≡ Some (Some i) → Chosen t i
-runs zero i e = nobody i e
+runs zero i e = absurd (cc)
 runs (suc zero) i e = level 1 i 1 e (lower_runs 1 (omega arith) (omega arith) (upper_quiet 1 (λ l. absurd (omega arith)) (λ l. absurd (omega arith))))
 runs (suc (suc zero)) i e = level 0 i 2 e (upper_runs 2 (inl (record { after = omega arith; lacks = omega arith })))
 runs (suc (suc (suc zero))) i e = level 1 i 3 e (lower_runs 3 (omega arith) (omega arith) (upper_quiet 3 (λ l. omega arith) (λ l. absurd (omega arith))))
 runs (suc (suc (suc (suc zero)))) i e = level 1 i 4 e (lower_runs 4 (omega arith) (omega arith) (upper_quiet 4 (λ l. omega arith) (λ l. absurd (omega arith))))
 runs (suc (suc (suc (suc (suc zero))))) i e = level 0 i 5 e (upper_runs 5 (inr (3, upper_first, record { after = omega arith; lacks = omega arith })))
-runs (suc (suc (suc (suc (suc (suc zero)))))) i e = nobody i e
-runs (suc (suc (suc (suc (suc (suc (suc t))))))) i e = over (Some i) e
-
-somebody : {X : Type 0} (i : ℕ) → ◌≡◌ {A = Option (Option ℕ)} (Some (Some i)) (Some None) → X
-somebody i e = absurd (let z : ◌≡◌ {A = ℕ} 0 1 = cc in omega arith)
+runs (suc (suc (suc (suc (suc (suc zero)))))) i e = absurd (cc)
+runs (suc (suc (suc (suc (suc (suc (suc t))))))) i e = absurd (cc)
 
 -- no third level
-third : {X : Type 0} (i t : ℕ) → Waiting worked_run (suc (suc i)) t → X
-third i t (task, at, w) = absurd (let z : ◌≡◌ {A = ℕ} 0 1 = cc in omega arith)
+third : (i t : ℕ) → ¬ Waiting worked_run (suc (suc i)) t
+third i t (task, at, w) = cc
 
 idles : (t : ℕ) → slice_get worked_run.ticks t ≡ Some None → (i : ℕ) → ¬ Waiting worked_run i t
 idles zero e zero = upper_quiet 0 (λ l. absurd (omega arith)) (λ l. absurd (omega arith))
 idles zero e (suc zero) = lower_quiet 0 (λ l. absurd (omega arith))
 idles zero e (suc (suc i)) = third i 0
-idles (suc zero) e i = somebody 1 e
-idles (suc (suc zero)) e i = somebody 0 e
-idles (suc (suc (suc zero))) e i = somebody 1 e
-idles (suc (suc (suc (suc zero)))) e i = somebody 1 e
-idles (suc (suc (suc (suc (suc zero))))) e i = somebody 0 e
+idles (suc zero) e i = absurd (cc)
+idles (suc (suc zero)) e i = absurd (cc)
+idles (suc (suc (suc zero))) e i = absurd (cc)
+idles (suc (suc (suc (suc zero)))) e i = absurd (cc)
+idles (suc (suc (suc (suc (suc zero))))) e i = absurd (cc)
 idles (suc (suc (suc (suc (suc (suc zero)))))) e zero = upper_quiet 6 (λ l. omega arith) (λ l. omega arith)
 idles (suc (suc (suc (suc (suc (suc zero)))))) e (suc zero) = lower_quiet 6 (λ l. omega arith)
 idles (suc (suc (suc (suc (suc (suc zero)))))) e (suc (suc i)) = third i 6
-idles (suc (suc (suc (suc (suc (suc (suc t))))))) e i = over None e
+idles (suc (suc (suc (suc (suc (suc (suc t))))))) e i = absurd (cc)
 
 tasks : (i : ℕ) (task : Task Whole) → Level worked_run i task → LawfulTask whole_kind task
-tasks zero task at = subst (λ y. LawfulTask whole_kind y) (some_same upper task at) (record { row_lawful = refl; spaced = (omega arith, tt); allowed = (refl, tt) })
-tasks (suc zero) task at = subst (λ y. LawfulTask whole_kind y) (some_same lower task at) (record { row_lawful = refl; spaced = (omega arith, tt); allowed = (refl, tt) })
-tasks (suc (suc i)) task at = absurd (none_some None task refl at)
+tasks zero task at = subst (λ y. LawfulTask whole_kind y) (same_Some upper task at) (record { row_lawful = refl; spaced = (omega arith, tt); allowed = (refl, tt) })
+tasks (suc zero) task at = subst (λ y. LawfulTask whole_kind y) (same_Some lower task at) (record { row_lawful = refl; spaced = (omega arith, tt); allowed = (refl, tt) })
+tasks (suc (suc i)) task at = absurd (cc)
 
 -- ---- the two jobs
 
@@ -130,9 +122,9 @@ lower_ends = (0, lower_first, lower_second)
 
 upper_in_time : NoLate whole_kind worked_run 0 upper
 upper_in_time zero j at lasts =
-    let same : record { release = 2; pattern = step 1 2 (final 1) } ≡ j = some_same _ j at in
+    let same : record { release = 2; pattern = step 1 2 (final 1) } ≡ j = same_Some _ j at in
     (6, upper_ends, subst (λ (y : Job). 6 ≤ y.release + 4) same (omega arith))
-upper_in_time (suc n) j at lasts = absurd (none_some None j refl at)
+upper_in_time (suc n) j at lasts = absurd (cc)
 
 lower_late : Late whole_kind worked_run 1 lower 0
 lower_late =

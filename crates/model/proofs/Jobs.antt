@@ -1,14 +1,14 @@
 -- Jobs in a row that are not held up by levels below: each is finished one bound after its release. Assumes nothing.
-use Rattle.std.proofs.Common.{◌≡◌, ℕ, zero, suc, ◌+◌, ◌<◌, ◌≤◌, List, [], ◌∷◌, Some, None, refl, ap, inl, inr, arith}
+use Rattle.std.proofs.Common.{◌≡◌, ℕ, zero, suc, ◌+◌, ◌<◌, ◌≤◌, List, [], ◌∷◌, Some, ap, inl, inr, arith}
 use Rattle.std.specs.List.{slice_get, AllByRecursion}
+use Rattle.std.proofs.lemmas.Option.{same_Some}
 use Rattle.model.specs.Patterns.{Pattern, costs, suspensions}
 use Rattle.model.specs.Runs.{Job, Ends, Waits, start, JobEnds, JobsWait, Spaced}
 use Rattle.model.proofs.Marks.{Counts, ended}
-use Rattle.model.proofs.Ticks.{some_same, none_some}
 
 pub spaced_from : (T : ℕ) (jobs : List Job) (x n : ℕ) (j : Job) → Spaced T x jobs → slice_get jobs n ≡ Some j → x ≤ j.release
-spaced_from T [] x n j s e = absurd (none_some None j refl e)
-spaced_from T (i ∷ js) x zero j (l, s) e = omega (arith, ap (λ (y : Job). y.release) (some_same i j e))
+spaced_from T [] x n j s e = absurd (cc)
+spaced_from T (i ∷ js) x zero j (l, s) e = omega (arith, ap (λ (y : Job). y.release) (same_Some i j e))
 spaced_from T (i ∷ js) x (suc n) j (l, s) e = omega (arith, spaced_from T js (i.release + T) n j s e)
 
 module _ (f h : ℕ → ℕ) where
@@ -24,9 +24,9 @@ module _ (f h : ℕ → ℕ) where
     -- then jobs in a row end b after their releases
     pub all_in_time : (jobs : List Job) (free x : ℕ) → free ≤ x → Spaced T x jobs → AllByRecursion (λ j. Ok j.pattern) jobs → Busy H (JobsWait f free jobs)
         → (n : ℕ) (j : Job) → slice_get jobs n ≡ Some j → j.release + b ≤ H → (m : ℕ) × JobEnds f free jobs n m × (m ≤ j.release + b)
-    all_in_time [] free x l s a busy n j e lasts = absurd (none_some None j refl e)
+    all_in_time [] free x l s a busy n j e lasts = absurd (cc)
     all_in_time (i ∷ js) free x l s a busy zero j e lasts =
-        let same = ap (λ (y : Job). y.release) (some_same i j e) in
+        let same = ap (λ (y : Job). y.release) (same_Some i j e) in
         let (m, ends, before) = end_in i.pattern a.0 (start free i) (omega arith) (λ t y v. busy t y (inl v)) in
         (m, ends, omega arith)
     all_in_time (i ∷ js) free x l s a busy (suc n) j e lasts =

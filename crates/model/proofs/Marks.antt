@@ -12,14 +12,18 @@ pub record Counts (f : ℕ → ℕ) : Type 0 where
 same_at : (f : ℕ → ℕ) (a b : ℕ) → a ≡ b → f a ≡ f b
 same_at f a b e = cc
 
+-- a count that never falls from one tick to the next never falls
+climbs : (f : ℕ → ℕ) → ((t : ℕ) → f t ≤ f (suc t)) → (a b : ℕ) → a ≤ b → f a ≤ f b
+climbs f up a zero h = omega (arith, same_at f a zero (omega arith))
+climbs f up a (suc b) h =
+    elim (cases_lt a (suc b)) [
+      | inl l ↦ omega (arith, climbs f up a b (omega arith), up b)
+      | inr g ↦ omega (arith, same_at f a (suc b) (omega arith))
+    ]
+
 module _ (f : ℕ → ℕ) (c : Counts f) where
   pub rising : (a b : ℕ) → a ≤ b → f a ≤ f b
-  rising a zero h = omega (arith, same_at f a zero (omega arith))
-  rising a (suc b) h =
-      elim (cases_lt a (suc b)) [
-        | inl l ↦ omega (arith, rising a b (omega arith), c.up b)
-        | inr g ↦ omega (arith, same_at f a (suc b) (omega arith))
-      ]
+  rising a b l = climbs f c.up a b l
 
   pub slowly : (a b : ℕ) → a ≤ b → f b ≤ f a + (b - a)
   slowly a zero h = omega (arith, same_at f a zero (omega arith))
@@ -129,12 +133,7 @@ module _ (f : ℕ → ℕ) (c : Counts f) where
         ]
 
     above_rising : (a b : ℕ) → a ≤ b → h a ≤ h b
-    above_rising a zero l = omega (arith, same_at h a zero (omega arith))
-    above_rising a (suc b) l =
-        elim (cases_lt a (suc b)) [
-          | inl l' ↦ omega (arith, above_rising a b (omega arith), above_up b)
-          | inr g ↦ omega (arith, same_at h a (suc b) (omega arith))
-        ]
+    above_rising a b l = climbs h above_up a b l
 
     -- a cost that waits only while the task or a level above runs is finished in time
     pub met : (s k e : ℕ) → s ≤ e → ((t : ℕ) → s ≤ t → t < e → Unmet f s k t → suc (f t + h t) ≤ f (suc t) + h (suc t))

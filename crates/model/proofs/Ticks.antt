@@ -2,7 +2,7 @@
 use Rattle.std.proofs.Common.{◌≡◌, ℕ, zero, suc, ◌+◌, ◌-◌, ◌<◌, ◌≤◌, true, false, cond, eqb, List, [], ◌∷◌, map, length, take, Some, None, sum_by, Option, sym, refl, ap, ◌∙◌, subst, inl, inr, add-suc, arith}
 use Rattle.std.specs.List.{slice_get}
 use Rattle.std.proofs.lemmas.List.Sums.{sum_by-cons}
-use Rattle.std.proofs.lemmas.Option.{slice_get_past}
+use Rattle.std.proofs.lemmas.Option.{slice_get_past, same_Some}
 use Rattle.std.proofs.lemmas.Bool.{cases_lt, cases_eq, eq-eqb, ne_eqb}
 use Rattle.model.specs.Runs.{Task, Run, sum_to, hit, ran, used, JobsWait, Level}
 use Rattle.model.specs.Rows.{Kind}
@@ -12,23 +12,10 @@ use Rattle.model.proofs.Marks.{Counts, rising, still}
 
 -- ---- lists by place
 
-pub some_same : {X : Type 0} (x y : X) → Some x ≡ Some y → x ≡ y
-some_same x y e = cc
-
-pub none_some : {X : Type 0} (o : Option X) (x : X) → o ≡ None → o ≡ Some x → ⊥
-none_some o x e f = let z : ◌≡◌ {A = ℕ} 0 1 = cc in omega arith
-
 pub nth_here : {X : Type 0} (xs : List X) (i : ℕ) → i < length xs → (x : X) × (slice_get xs i ≡ Some x)
 nth_here [] i h = absurd (omega arith)
 nth_here (x ∷ xs) zero h = (x, refl)
 nth_here (x ∷ xs) (suc i) h = nth_here xs i (omega arith)
-
-pub nth_inside : {X : Type 0} (xs : List X) (i : ℕ) (x : X) → slice_get xs i ≡ Some x → i < length xs
-nth_inside xs i x e =
-    elim (cases_lt i (length xs)) [
-      | inl l ↦ l
-      | inr g ↦ absurd (none_some (slice_get xs i) x (slice_get_past xs i g) e)
-    ]
 
 -- ---- one level
 
@@ -208,4 +195,4 @@ pub runs_waiting : {R : Type 0} (kind : Kind R) (run : Run R) → Lawful kind ru
     → (t : ℕ) → ran run.ticks k t < ran run.ticks k (suc t) → JobsWait (ran run.ticks k) 0 task.jobs t
 runs_waiting {R} kind run law k task at t h =
     let (other, there, waits) = (law.runs t k (grown run.ticks k t h)).0 in
-    subst (λ (y : Task R). JobsWait (ran run.ticks k) 0 y.jobs t) (some_same other task (sym there ∙ at)) waits
+    subst (λ (y : Task R). JobsWait (ran run.ticks k) 0 y.jobs t) (same_Some other task (sym there ∙ at)) waits

@@ -56,8 +56,8 @@ fullest (more c lo hi s) = step c hi (fullest s)
 
 pub ranges_total : (s : Segments) (p : Pattern) → keeps_ranges s p ≡ true → (costs p ≤ all_ticks s) × (suspensions p ≤ most_gaps s)
 ranges_total (last c) (final k) e = (leb-true k c e, omega arith)
-ranges_total (last c) (step k w p) e = absurd (let z : false ≡ true = e in let n : ◌≡◌ {A = ℕ} 0 1 = cc in omega arith)
-ranges_total (more c lo hi s) (final k) e = absurd (let z : false ≡ true = e in let n : ◌≡◌ {A = ℕ} 0 1 = cc in omega arith)
+ranges_total (last c) (step k w p) e = absurd (cc)
+ranges_total (more c lo hi s) (final k) e = absurd (cc)
 ranges_total (more c lo hi s) (step k w p) e =
     let (a, e₁) = and_parts (nat_le k c) (nat_le lo w && (nat_le w hi && keeps_ranges s p)) e in
     let (b, e₂) = and_parts (nat_le lo w) (nat_le w hi && keeps_ranges s p) e₁ in

@@ -9,8 +9,7 @@ pub const LIMIT: u32 = 1_000_000;
 pub fn within_limits(period: u32, deadline: u32, compute: u64, suspend: u64) -> bool
     ensures { result ≡ bounded period deadline compute suspend }
 {
-    1 <= period
-        && period <= LIMIT
+    (1..=LIMIT).contains(&period)
         && 1 <= compute
         && compute <= deadline as u64
         && suspend <= deadline as u64 - compute

@@ -4,7 +4,7 @@ ghost use Rattle.model.specs.WholeRows.{whole_kind};
 use crate::limits::within_limits;
 use crate::row::Row;
 
-#[derive(Clone, Copy)]
+#[derive(Clone, Copy, Default)]
 pub struct Whole {
     pub id: u16,
     pub period: u32,
@@ -25,6 +25,7 @@ impl Row for Whole {
         )
     }
 
+    // Both kinds read `id`, `period`, `deadline`, each its own public field: a part of both would stand between a row and its fields.
     fn id(&self) -> u16 {
         self.id
     }
@@ -46,12 +47,6 @@ impl Row for Whole {
     }
 
     fn blank() -> Whole {
-        Whole {
-            id: 0,
-            period: 0,
-            deadline: 0,
-            compute: 0,
-            suspend: 0,
-        }
+        Whole::default()
     }
 }

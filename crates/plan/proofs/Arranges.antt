@@ -1,22 +1,21 @@
 -- What judging rows and finding an order return, as arrange has it. Assumes nothing.
-use Rattle.std.proofs.Common.{◌≡◌, ℕ, ◌-◌, ◌<◌, ◌≤◌, Bool, true, false, cond, List, length, take, Some, None, sym, refl, ap, subst, inl, inr, arith}
-use lib.Count.{ones}
+use Rattle.std.proofs.Common.{◌≡◌, ℕ, ◌<◌, ◌≤◌, Bool, true, false, cond, List, length, take, Some, None, sym, refl, ap, subst, inl, inr, arith}
 use Rattle.std.proofs.lemmas.List.{get_or-take, take-take, length-take-le}
 use Rattle.std.proofs.lemmas.Bool.{not_from_true, not_from_false}
 use Rattle.std.specs.List.{flat_map}
 use Rattle.model.specs.Rows.{Kind}
 use Rattle.feasibility.specs.Tests.{Answers}
 use Rattle.feasibility.specs.Masks.{places, row_of}
-use Rattle.assign.specs.Assignment.{accepted, stuck}
-use Rattle.assign.specs.Laws.{all_places, Arranges}
+use Rattle.assign.specs.Laws.{all_places}
+use Rattle.assign.specs.Counts.{tasks_in}
 use Rattle.assign.specs.declared.order.Left.{Left}
 use Rattle.table.specs.declared.fault.Fault.{Fault}
 use Rattle.table.specs.declared.fault.Fault.TheVariants.{Plan, Assignment}
 use Rattle.table.specs.declared.fault.PlanFault.{PlanFault}
 use Rattle.table.specs.declared.refusal.Refusal.{Refusal}
 use Rattle.table.specs.declared.refusal.Refusal.TheVariants.{ShortMemory, RowUnlawful, IdTaken}
-use Rattle.table.specs.Tables.{has_id, row_refusal, table_of, LawfulTable, FirstFault}
-use Rattle.plan.specs.States.{State, opened, arranged, done, refused_beside}
+use Rattle.table.specs.Tables.{has_id, row_refusal, table_of, plan_fault, LawfulTable, FirstFault}
+use Rattle.plan.specs.States.{opened, arranged, done, refused_beside}
 use Rattle.plan.specs.Calls.{Passed, Met, in_plan, some_short, row_checks, arrange_checks, Arrange, given, none_fits, not_arranged}
 use Rattle.plan.specs.Orders.{OrderFound, NoOrderFound}
 use Rattle.plan.proofs.Checks.{passed_at, passed_all, met_at}
@@ -52,32 +51,23 @@ module _ {R : Type 0} (kind : Kind R) where
   fault_met : (table : List R) (f : PlanFault) → FirstFault kind table f → Met (flat_map (row_checks kind table) (all_places table)) (Plan f)
   fault_met table f w = met_at (row_checks kind table) (Plan f) (length table) f.place w.within (before_passes table f.place (omega (arith, w.within)) w.before) (row_met table f.place f.refusal w.here)
 
-  module _ (test : Answers R) (n : ℕ) (few : n ≤ 32) (rows : List R) (order bounds : List ℕ) where
-    abbrev before : State R
-    before = opened n rows order bounds
+  -- rows that pass where no memory is short
+  passes : (n : ℕ) → n ≤ 32 → (rows : List R) (order bounds : List ℕ) → some_short rows order bounds ≡ false → LawfulTable kind (table_of n rows) → Passed (arrange_checks kind n rows order bounds)
+  passes n few rows order bounds e t = (e, lawful_passes kind (take n rows) (subst (LawfulTable kind) (whole_table kind rows n few) t))
 
-    -- the plan is given back as it was
-    refused_by : (m left questions : ℕ) (f g : Fault) → Met (arrange_checks kind n rows order bounds) f → (m ≡ n) × (g ≡ f) × (left ≡ 0) × (questions ≡ 0) → Arrange kind test before (refused_beside g left questions) (opened m rows order bounds)
-    refused_by m left questions f g d (em, eg, el, eq) = rw (em, eg, el, eq) (not_arranged d)
+module _ {R : Type 0} {kind : Kind R} {test : Answers R} {n : ℕ} (few : n ≤ 32) {rows : List R} {order bounds : List ℕ} where
+  -- the plan is given back as it was
+  refused_by : {m left questions : ℕ} {f g : Fault} → Met (arrange_checks kind n rows order bounds) f → (m ≡ n) × (g ≡ f) × (left ≡ 0) × (questions ≡ 0) → Arrange kind test (opened n rows order bounds) (refused_beside g left questions) (opened m rows order bounds)
+  refused_by d (em, eg, el, eq) = rw (em, eg, el, eq) (not_arranged d)
 
-    pub arrange_short : (m left questions : ℕ) (f g : Fault) → some_short rows order bounds ≡ true → f ≡ in_plan ShortMemory 0 → (m ≡ n) × (g ≡ f) × (left ≡ 0) × (questions ≡ 0) → Arrange kind test before (refused_beside g left questions) (opened m rows order bounds)
-    arrange_short m left questions f g e is back = refused_by m left questions f g (inl (e, sym is)) back
+  pub arrange_short : {m left questions : ℕ} {f : PlanFault} {g : Fault} → some_short rows order bounds ≡ true → f ≡ plan_fault ShortMemory 0 → (m ≡ n) × (g ≡ Plan f) × (left ≡ 0) × (questions ≡ 0) → Arrange kind test (opened n rows order bounds) (refused_beside g left questions) (opened m rows order bounds)
+  arrange_short e is back = refused_by (inl (e, ap (λ (k : PlanFault). Plan k) (sym is))) back
 
-    pub arrange_judged : (m left questions : ℕ) (f : PlanFault) (g : Fault) → some_short rows order bounds ≡ false → FirstFault kind (table_of n rows) f → (m ≡ n) × (g ≡ Plan f) × (left ≡ 0) × (questions ≡ 0) → Arrange kind test before (refused_beside g left questions) (opened m rows order bounds)
-    arrange_judged m left questions f g e w back =
-        refused_by m left questions (Plan f) g (inr (e, fault_met (take n rows) f (subst (λ (t : List R). FirstFault kind t f) (whole_table kind rows n few) w))) back
+  pub arrange_judged : {m left questions : ℕ} {f : PlanFault} {g : Fault} → some_short rows order bounds ≡ false → FirstFault kind (table_of n rows) f → (m ≡ n) × (g ≡ Plan f) × (left ≡ 0) × (questions ≡ 0) → Arrange kind test (opened n rows order bounds) (refused_beside g left questions) (opened m rows order bounds)
+  arrange_judged {f = f} e w back = refused_by (inr (e, fault_met kind (take n rows) f (subst (λ (t : List R). FirstFault kind t f) (whole_table kind rows n few) w))) back
 
-    passes : some_short rows order bounds ≡ false → LawfulTable kind (table_of n rows) → Passed (arrange_checks kind n rows order bounds)
-    passes e t = (e, lawful_passes kind (take n rows) (subst (LawfulTable kind) (whole_table kind rows n few) t))
+  pub arrange_given : {order' bounds' : List ℕ} {questions : ℕ} → some_short rows order bounds ≡ false → LawfulTable kind (table_of n rows) → OrderFound kind test (take n rows) order order' bounds bounds' questions → Arrange kind test (opened n rows order bounds) done (arranged n questions rows order' bounds')
+  arrange_given e t d = rw (d.order_is, d.bounds_is) (given (passes kind n few rows order bounds e t) d.found)
 
-    -- the rows that are handed on
-    first_rows : take (n - 0) rows ≡ take n rows
-    first_rows = let e : n - 0 ≡ n = omega arith in ap (λ (k : ℕ). take k rows) e
-
-    pub arrange_given : (order' bounds' : List ℕ) (questions : ℕ) → some_short rows order bounds ≡ false → LawfulTable kind (table_of n rows) → OrderFound kind test (take (n - 0) rows) order order' bounds bounds' questions → Arrange kind test before done (arranged n questions rows order' bounds')
-    arrange_given order' bounds' questions e t d =
-        rw (d.order_is, d.bounds_is) (given (passes e t) (subst (λ (l : List R). Arranges kind test l (accepted d.chosen d.answered questions)) first_rows d.found))
-
-    pub arrange_stuck : (order' bounds' : List ℕ) (s : Left) → some_short rows order bounds ≡ false → LawfulTable kind (table_of n rows) → NoOrderFound kind test (take (n - 0) rows) order order' bounds bounds' s → Arrange kind test before (refused_beside (Assignment (ones s.mask)) s.mask s.questions) (opened n rows order' bounds')
-    arrange_stuck order' bounds' s e t d =
-        rw (d.order_is, d.bounds_is, d.counted, d.mask_is) (none_fits (passes e t) (subst (λ (l : List R). Arranges kind test l (stuck d.left s.questions)) first_rows d.found))
+  pub arrange_stuck : {order' bounds' : List ℕ} {s : Left} {count : ℕ} → some_short rows order bounds ≡ false → LawfulTable kind (table_of n rows) → NoOrderFound kind test (take n rows) order order' bounds bounds' s → count ≡ tasks_in s.mask → Arrange kind test (opened n rows order bounds) (refused_beside (Assignment count) s.mask s.questions) (opened n rows order' bounds')
+  arrange_stuck e t d is = rw (d.order_is, d.bounds_is, is, d.counted, d.mask_is) (none_fits (passes kind n few rows order bounds e t) d.found)

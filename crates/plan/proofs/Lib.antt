@@ -13,3 +13,5 @@ pub mod Returns
 pub mod Orders
 pub mod Loads
 pub mod Arranges
+pub mod Through
+pub mod Lookups

@@ -1,5 +1,5 @@
 -- What reading a sheet into memory returns, as load has it. Assumes nothing.
-use Rattle.std.proofs.Common.{◌≡◌, ℕ, ◌<◌, ◌≤◌, Bool, List, [], length, Ok, Err, Result, sym, refl, ap, subst, inl, arith}
+use Rattle.std.proofs.Common.{◌≡◌, ℕ, ◌<◌, ◌≤◌, Bool, List, [], length, Ok, Err, sym, refl, ap, subst, inl, arith}
 use Rattle.std.proofs.lemmas.Bool.{lt-ltb}
 use Rattle.model.specs.Rows.{Kind}
 use Rattle.table.specs.declared.fault.Fault.{Fault}
@@ -16,18 +16,15 @@ use Rattle.plan.specs.Returns.{Loads}
 use Rattle.plan.proofs.Memories.{not_short}
 use Rattle.plan.proofs.Readings.{sheet_few}
 
-module _ {S R : Type 0} (kind : Kind R) (g : Grammar S R) (mark : ℕ) (letters : ℕ → Bool) (bytes : List ℕ) (rows : List R) where
-  pub load_short : (plan : Open) → length rows < 32 → Loads kind g mark letters bytes plan rows (refused (InSheet ShortMemory 0)) plan rows
-  load_short plan l =
+module _ {S R : Type 0} (kind : Kind R) {g : Grammar S R} {mark : ℕ} {letters : ℕ → Bool} {bytes : List ℕ} {rows : List R} where
+  pub load_short : {plan : Open} → length rows < 32 → Loads kind g mark letters bytes plan rows (refused (InSheet ShortMemory 0)) plan rows
+  load_short l =
       let one = one_verdict S R g (append_refusal kind) mark letters bytes in
       record { verdict = one.verdict; sheet = one.sheet; loads = λ order bounds. not_loaded (inl (lt-ltb (length rows) 32 l, refl)) }
 
-  module _ (after : List R) (room : 32 ≤ length rows) where
-    abbrev ReadInto : Result (ℕ × ℕ) Fault → Type 0
-    ReadInto r = Replaces g (append_refusal kind) mark letters kind.blank bytes rows after r
-
+  module _ {after : List R} (room : 32 ≤ length rows) where
     -- the table and the letter of an accepted sheet
-    accepted : {tasks byte : ℕ} → ReadInto (Ok (tasks, byte)) → (table : List R) × Sheet g (append_refusal kind) mark letters bytes (good table byte) × (tasks ≡ length table) × (after ≡ written kind.blank table rows)
+    accepted : {tasks byte : ℕ} → Replaces g (append_refusal kind) mark letters kind.blank bytes rows after (Ok (tasks, byte)) → (table : List R) × Sheet g (append_refusal kind) mark letters bytes (good table byte) × (tasks ≡ length table) × (after ≡ written kind.blank table rows)
     accepted {tasks} {byte} r = let d = r.long room in go d.verdict d.sheet d.answered d.memory
       where
         go : (v : Verdict R) → Sheet g (append_refusal kind) mark letters bytes v → Ok (tasks, byte) ≡ answer_of v → after ≡ written kind.blank (rows_of v) rows → (table : List R) × Sheet g (append_refusal kind) mark letters bytes (good table byte) × (tasks ≡ length table) × (after ≡ written kind.blank table rows)
@@ -37,11 +34,11 @@ module _ {S R : Type 0} (kind : Kind R) (g : Grammar S R) (mark : ℕ) (letters 
             (table, subst (λ (b : ℕ). Sheet g (append_refusal kind) mark letters bytes (good table b)) same s, ap (λ (x : ℕ × ℕ). x.0) both, m)
         go (bad f) s e m = let z : ◌≡◌ {A = ℕ} 0 1 = cc in absurd (omega arith)
 
-    pub load_few : {tasks byte : ℕ} → ReadInto (Ok (tasks, byte)) → tasks ≤ 32
+    pub load_few : {tasks byte : ℕ} → Replaces g (append_refusal kind) mark letters kind.blank bytes rows after (Ok (tasks, byte)) → tasks ≤ 32
     load_few r = let (table, s, e, m) = accepted r in omega (arith, sheet_few kind g s)
 
-    pub load_accepted : {tasks byte : ℕ} (plan plan' : Open) → plan'.tasks ≡ tasks → ReadInto (Ok (tasks, byte)) → Loads kind g mark letters bytes plan rows (letter byte) plan' after
-    load_accepted {tasks} {byte} plan plan' e r = let (table, s, size, m) = accepted r in made table s size m
+    pub load_accepted : {tasks byte : ℕ} {plan plan' : Open} → plan'.tasks ≡ tasks → Replaces g (append_refusal kind) mark letters kind.blank bytes rows after (Ok (tasks, byte)) → Loads kind g mark letters bytes plan rows (letter byte) plan' after
+    load_accepted {tasks} {byte} {plan} {plan'} e r = let (table, s, size, m) = accepted r in made table s size m
       where
         made : (table : List R) → Sheet g (append_refusal kind) mark letters bytes (good table byte) → tasks ≡ length table → after ≡ written kind.blank table rows → Loads kind g mark letters bytes plan rows (letter byte) plan' after
         made table s size m = record {
@@ -52,8 +49,8 @@ module _ {S R : Type 0} (kind : Kind R) (g : Grammar S R) (mark : ℕ) (letters 
               subst (λ (t : State R). Load kind (good table byte) (opened plan.tasks rows order bounds) (letter byte) t) there (loaded (not_short rows room, tt));
         }
 
-    pub load_refused : {f : Fault} (plan plan' : Open) → plan'.tasks ≡ 0 → ReadInto (Err f) → Loads kind g mark letters bytes plan rows (refused f) plan' after
-    load_refused {f} plan plan' e r = let d = r.long room in go d.verdict d.sheet d.answered d.memory
+    pub load_refused : {f : Fault} {plan plan' : Open} → plan'.tasks ≡ 0 → Replaces g (append_refusal kind) mark letters kind.blank bytes rows after (Err f) → Loads kind g mark letters bytes plan rows (refused f) plan' after
+    load_refused {f} {plan} {plan'} e r = let d = r.long room in go d.verdict d.sheet d.answered d.memory
       where
         go : (v : Verdict R) → Sheet g (append_refusal kind) mark letters bytes v → Err f ≡ answer_of v → after ≡ written kind.blank (rows_of v) rows → Loads kind g mark letters bytes plan rows (refused f) plan' after
         go (good table byte) s h m = let z : ◌≡◌ {A = ℕ} 0 1 = cc in absurd (omega arith)

@@ -1,16 +1,15 @@
 -- The assignment of priorities over memories of 32 entries. Assumes nothing.
-use Rattle.std.proofs.Common.{◌≡◌, ℕ, zero, suc, ◌+◌, ◌*◌, ◌/◌, ◌%◌, ◌^◌, ◌<◌, ◌≤◌, true, false, cond, ◌⊎◌, List, [], ◌∷◌, ◌++◌, length, take, drop, Err, Option, sym, refl, ap, ◌∙◌, subst, inl, inr, arith, length-append}
-use lib.Count.{ones, ones_cat, ones-ones}
-use Rattle.std.proofs.lemmas.Nat.{mod-pow-add, mod_below, pow_pos}
-use Rattle.std.proofs.lemmas.List.{length-take-le, length_push, take_at}
-use Rattle.std.proofs.lemmas.Bool.{cases_Bool, eqb-true, eqb-false}
+use Rattle.std.proofs.Common.{◌≡◌, ℕ, ◌+◌, ◌-◌, ◌^◌, ◌<◌, ◌≤◌, List, [], ◌++◌, length, take, drop, Err, Option, sym, refl, ap, ◌∙◌, subst, arith, length-append}
+use Rattle.std.proofs.lemmas.Nat.{mod_below, pow_pos}
+use Rattle.std.proofs.lemmas.List.{length-take-le, take_at}
 use Rattle.model.specs.Rows.{Kind}
 use Rattle.feasibility.specs.Tests.{Answers, TestRules}
-use Rattle.feasibility.specs.Masks.{row_of, in_mask, mask_of, has, bit_at}
-use Rattle.feasibility.proofs.Masks.{pool_suc, mask_in}
+use Rattle.feasibility.specs.Masks.{row_of, in_mask, mask_of}
+use Rattle.feasibility.proofs.Masks.{mask_in, in_past}
 use Rattle.table.specs.Tables.{written}
 use Rattle.assign.specs.Assignment.{Filled, none_yet, one_more}
 use Rattle.assign.specs.Search.{Accepts, Sticks, Searched}
+use Rattle.assign.specs.Counts.{tasks_in}
 use Rattle.assign.specs.declared.order.Left.{Left}
 use Rattle.assign.specs.declared.order.NoOrder.{NoOrder}
 use Rattle.assign.specs.declared.order.NoOrder.TheVariants.{Stuck}
@@ -21,23 +20,10 @@ use Rattle.assign.proofs.Steps.{length_places}
 use Rattle.plan.specs.Orders.{OrderFound, NoOrderFound}
 use Rattle.plan.proofs.Memories.{written_same, front_past}
 
--- a mask has as many bits as places
-bits_in : (mask n : ℕ) → ones (mask % 2 ^ n) ≡ length (in_mask mask n)
-bits_in mask zero = let z : mask % 2 ^ zero ≡ 0 = omega arith in ap ones z ∙ ones-ones 0
-bits_in mask (suc n) =
-    let s : 1 + n ≡ suc n = omega arith in
-    let split : mask % 2 ^ suc n ≡ (mask / 2 ^ n % 2) * 2 ^ n + mask % 2 ^ n = ap (λ (k : ℕ). mask % 2 ^ k) (sym s) ∙ mod-pow-add mask 1 n in
-    let low : mask % 2 ^ n < 2 ^ n = mod_below mask (2 ^ n) (pow_pos n) in
-    ap ones split ∙ (ones_cat n (mask / 2 ^ n % 2) (mask % 2 ^ n) low ∙ (go (cases_Bool (has mask n)) (bits_in mask n) ∙ sym (ap length (pool_suc (has mask) n))))
-  where
-    go : (has mask n ≡ true) ⊎ (has mask n ≡ false) → ones (mask % 2 ^ n) ≡ length (in_mask mask n) → ones (mask / 2 ^ n % 2) + ones (mask % 2 ^ n) ≡ length (in_mask mask n ++ cond (has mask n) (n ∷ []) [])
-    go (inl h) ih =
-        let one : ones (bit_at mask n) ≡ 1 = ap ones (eqb-true (bit_at mask n) 1 h) ∙ ones-ones 1 in
-        rw h (omega (arith, length_push (in_mask mask n) n))
-    go (inr h) ih =
-        let bit : bit_at mask n ≡ 0 = (let ne = eqb-false (bit_at mask n) 1 h in let sm : bit_at mask n < 2 = omega arith in let d : bit_at mask n ≡ 1 → ⊥ = ne in omega arith) in
-        let none : ones (bit_at mask n) ≡ 0 = ap ones bit ∙ ones-ones 0 in
-        rw h (omega (arith, length-append (in_mask mask n) []))
+-- a set of places of a table has as many tasks as places
+tasks_of_table : (mask n : ℕ) → n ≤ 32 → mask < 2 ^ n → tasks_in mask ≡ length (in_mask mask n)
+unfolding tasks_in
+tasks_of_table mask n few l = let all : 32 ≡ n + (32 - n) = omega arith in ap (λ (k : ℕ). length (in_mask mask k)) all ∙ ap length (in_past mask n (32 - n) l)
 
 filled_length : {R : Type 0} (answer : R → List R → Option ℕ) (row : ℕ → R) {start pool order bounds : List ℕ} {asked : ℕ} → Filled answer row start pool order bounds asked → (length pool + length order ≡ length start) × (length bounds ≡ length order)
 filled_length answer row none_yet = (omega arith, refl)
@@ -72,14 +58,14 @@ module _ {R : Type 0} (kind : Kind R) (test : Answers R) (rules : TestRules kind
       let a : Sticks kind test table order order' bounds bounds' s = subst (λ (w : NoOrder). Searched kind test table order order' bounds bounds' (Err w)) e d in
       let f = filled_length test.answer (row_of kind table) a.filled in
       let p = length_places (length table) in
-      let within : s.mask ≡ s.mask % 2 ^ length table = a.mask_is ∙ (ap mask_of a.left_is ∙ mask_in s.mask (length table)) in
-      let counted : ones s.mask ≡ length a.left = ap ones within ∙ (bits_in s.mask (length table) ∙ ap length (sym a.left_is)) in
+      let below : s.mask < 2 ^ length table = omega (arith, a.mask_is ∙ (ap mask_of a.left_is ∙ mask_in s.mask (length table)), mod_below s.mask (2 ^ length table) (pow_pos (length table))) in
+      let counted : tasks_in s.mask ≡ length a.left = tasks_of_table s.mask (length table) few below ∙ ap length (sym a.left_is) in
       record {
         left = a.left;
         found = a.found;
         mask_is = a.mask_is;
         counted = counted;
-        few_left = omega (arith, counted);
+        few_left = omega arith;
         order_is = co ∙ written_same [] order order' (past_filled order a.chosen order' (length a.left) (length table) a.order_is (omega arith) few (omega arith));
         bounds_is = cb ∙ written_same [] bounds bounds' (past_filled bounds a.answered bounds' (length a.left) (length table) a.bounds_is (omega arith) few (omega arith));
       }

@@ -1,19 +1,17 @@
 -- What the functions on tables return, as the plan's calls have it. Assumes nothing.
-use Rattle.std.proofs.Common.{◌≡◌, ℕ, ◌+◌, ◌-◌, ◌<◌, ◌≤◌, min, Bool, true, false, cond, not, ◌||◌, ltb, leb, ◌⊎◌, List, [], ◌∷◌, ◌++◌, length, get_or, take, drop, set, Some, None, Option, sym, refl, ap, ◌∙◌, subst, inl, inr, arith}
-use Rattle.std.proofs.lemmas.List.{length-take-le, get_or-take, get_or_read}
-use Rattle.std.proofs.lemmas.Bool.{cases_lt, lt-ltb, le-ltb, le-leb, lt-leb, leb-true, or_left, or_right, or_from}
+use Rattle.std.proofs.Common.{◌≡◌, ℕ, ◌+◌, ◌-◌, ◌<◌, ◌≤◌, min, Bool, true, false, cond, not, leb, ◌⊎◌, List, [], ◌∷◌, ◌++◌, length, take, drop, set, Some, None, Option, sym, refl, ap, ◌∙◌, inl, inr, arith}
+use Rattle.std.proofs.lemmas.List.{length-take-le}
+use Rattle.std.proofs.lemmas.Bool.{cases_lt, lt-ltb, le-ltb, le-leb, lt-leb, leb-true}
 use Rattle.std.specs.Option.{option_map}
 use Rattle.model.specs.Rows.{Kind}
-use Rattle.feasibility.specs.Masks.{row_of}
 use Rattle.table.specs.declared.fault.Fault.{Fault}
 use Rattle.table.specs.declared.fault.Fault.TheVariants.{Plan}
 use Rattle.table.specs.declared.fault.PlanFault.{PlanFault}
 use Rattle.table.specs.declared.refusal.Refusal.TheVariants.{ShortMemory, TableFull, RowUnlawful, IdTaken, NoSuchTask}
 use Rattle.table.specs.Tables.{has_id, plan_fault, append_fault, row_refusal, absent_fault, remove_fault, replace_fault, table_of, after_table, replaced, removed}
-use Rattle.plan.specs.States.{State, opened, arranged, Answer, done, told, refused, tasks_of}
-use Rattle.plan.specs.Calls.{Passed, Met, in_plan, short, some_short, enter_checks, amend_checks, withdraw_checks, Enter, entered, not_entered, Amend, amended, not_amended, Withdraw, withdrawn, not_withdrawn, Reopen, reopened, Read, read_at, not_read}
+use Rattle.plan.specs.States.{State, opened, Answer, done, refused, tasks_of}
+use Rattle.plan.specs.Calls.{Passed, Met, in_plan, short, enter_checks, amend_checks, withdraw_checks, Enter, entered, not_entered, Amend, amended, not_amended, Withdraw, withdrawn, not_withdrawn, Reopen, reopened}
 use Rattle.plan.specs.Returns.{ReopenMeans}
-use Rattle.plan.proofs.Effects.{long_all}
 
 -- the fault of the first check that is met
 abbrev pub first : List (Bool × Fault) → Option Fault
@@ -102,61 +100,25 @@ module _ {R : Type 0} (kind : Kind R) (rows : List R) (n : ℕ) (few : n ≤ 32)
   met : (o : Option PlanFault) (cs : List (Bool × Fault)) (f : PlanFault) → option_map (λ g. Plan g) o ≡ first cs → o ≡ Some f → Met cs (Plan f)
   met o cs f e h = first_some cs (Plan f) (sym e ∙ ap (option_map (λ g. Plan g)) h)
 
-  module _ (after : List R) (order bounds : List ℕ) where
-    -- the table's answer is the plan's
-    pub appended : (x : R) → append_fault kind rows n x ≡ None → after ≡ set rows n x → Enter kind x (opened n rows order bounds) done (opened (n + 1) after order bounds)
-    appended x e is = subst (λ (m : List R). Enter kind x (opened n rows order bounds) done (opened (n + 1) m order bounds)) (sym is) (entered (passed _ (enter_checks kind n rows x) (append_first x) e))
+-- the table's answer is the plan's
+module _ {R : Type 0} {kind : Kind R} {n : ℕ} (few : n ≤ 32) {rows after : List R} {order bounds : List ℕ} where
+  pub appended : {x : R} → append_fault kind rows n x ≡ None → after ≡ set rows n x → Enter kind x (opened n rows order bounds) done (opened (n + 1) after order bounds)
+  appended {x} e is = rw is (entered (passed kind rows n few _ (enter_checks kind n rows x) (append_first kind rows n few x) e))
 
-    pub not_appended : (x : R) (f : PlanFault) → append_fault kind rows n x ≡ Some f → after ≡ rows → Enter kind x (opened n rows order bounds) (refused (Plan f)) (opened n after order bounds)
-    not_appended x f e is = subst (λ (m : List R). Enter kind x (opened n rows order bounds) (refused (Plan f)) (opened n m order bounds)) (sym is) (not_entered (met _ (enter_checks kind n rows x) f (append_first x) e))
+  pub not_appended : {x : R} {f : PlanFault} → append_fault kind rows n x ≡ Some f → after ≡ rows → Enter kind x (opened n rows order bounds) (refused (Plan f)) (opened n after order bounds)
+  not_appended {x} {f} e is = rw is (not_entered (met kind rows n few _ (enter_checks kind n rows x) f (append_first kind rows n few x) e))
 
-    pub was_replaced : (x : R) → replace_fault kind rows n x ≡ None → after ≡ replaced kind x (table_of n rows) ++ after_table n rows → Amend kind x (opened n rows order bounds) done (opened n after order bounds)
-    was_replaced x e is =
-        let there : replaced kind x (take n rows) ++ drop n rows ≡ after = sym (is ∙ rw (whole_table, rest_of_table) refl) in
-        subst (λ (m : List R). Amend kind x (opened n rows order bounds) done (opened n m order bounds)) there (amended (passed _ (amend_checks kind n rows x) (replace_first x) e))
+  pub was_replaced : {x : R} → replace_fault kind rows n x ≡ None → after ≡ replaced kind x (table_of n rows) ++ after_table n rows → Amend kind x (opened n rows order bounds) done (opened n after order bounds)
+  was_replaced {x} e is = rw (is, whole_table kind rows n few, rest_of_table kind rows n few) (amended (passed kind rows n few _ (amend_checks kind n rows x) (replace_first kind rows n few x) e))
 
-    pub not_replaced : (x : R) (f : PlanFault) → replace_fault kind rows n x ≡ Some f → after ≡ rows → Amend kind x (opened n rows order bounds) (refused (Plan f)) (opened n after order bounds)
-    not_replaced x f e is = subst (λ (m : List R). Amend kind x (opened n rows order bounds) (refused (Plan f)) (opened n m order bounds)) (sym is) (not_amended (met _ (amend_checks kind n rows x) f (replace_first x) e))
+  pub not_replaced : {x : R} {f : PlanFault} → replace_fault kind rows n x ≡ Some f → after ≡ rows → Amend kind x (opened n rows order bounds) (refused (Plan f)) (opened n after order bounds)
+  not_replaced {x} {f} e is = rw is (not_amended (met kind rows n few _ (amend_checks kind n rows x) f (replace_first kind rows n few x) e))
 
-    pub was_removed : (id : ℕ) → remove_fault kind rows n id ≡ None → after ≡ removed kind id (table_of n rows) ++ kind.blank ∷ after_table n rows → Withdraw kind id (opened n rows order bounds) done (opened (n - 1) after order bounds)
-    was_removed id e is =
-        let there : removed kind id (take n rows) ++ kind.blank ∷ drop n rows ≡ after = sym (is ∙ rw (whole_table, rest_of_table) refl) in
-        subst (λ (m : List R). Withdraw kind id (opened n rows order bounds) done (opened (n - 1) m order bounds)) there (withdrawn (passed _ (withdraw_checks kind n rows id) (remove_first id) e))
+  pub was_removed : {id : ℕ} → remove_fault kind rows n id ≡ None → after ≡ removed kind id (table_of n rows) ++ kind.blank ∷ after_table n rows → Withdraw kind id (opened n rows order bounds) done (opened (n - 1) after order bounds)
+  was_removed {id} e is = rw (is, whole_table kind rows n few, rest_of_table kind rows n few) (withdrawn (passed kind rows n few _ (withdraw_checks kind n rows id) (remove_first kind rows n few id) e))
 
-    pub not_removed : (id : ℕ) (f : PlanFault) → remove_fault kind rows n id ≡ Some f → after ≡ rows → Withdraw kind id (opened n rows order bounds) (refused (Plan f)) (opened n after order bounds)
-    not_removed id f e is = subst (λ (m : List R). Withdraw kind id (opened n rows order bounds) (refused (Plan f)) (opened n m order bounds)) (sym is) (not_withdrawn (met _ (withdraw_checks kind n rows id) f (remove_first id) e))
-
--- the calls that are lent all three memories
-module _ {R : Type 0} (kind : Kind R) (rows : List R) (order bounds : List ℕ) (n q level : ℕ) where
-  abbrev ready : State R
-  ready = arranged n q rows order bounds
-
-  -- a level and the place that the order has there
-  abbrev told_at : Answer
-  told_at = told (kind.ident (row_of kind (take n rows) (get_or order (level - 1) 0))) (get_or bounds (level - 1) 0)
-
-  pub read_short : (f : Fault) → some_short rows order bounds ≡ true → f ≡ in_plan ShortMemory 0 → Read kind level ready (refused f) ready
-  read_short f e is = not_read (inl (e, sym is))
-
-  pub read_no_level : (f : Fault) → some_short rows order bounds ≡ false → (level ≡ 0) ⊎ (n < level) → f ≡ in_plan NoSuchTask 0 → Read kind level ready (refused f) ready
-  read_no_level f e out is = not_read (inr (e, inl (outside out, sym is)))
-    where
-      outside : (level ≡ 0) ⊎ (n < level) → (leb level 0 || ltb n level) ≡ true
-      outside (inl z) = or_left _ _ (le-leb level 0 (omega arith))
-      outside (inr l) = or_right _ _ (lt-ltb n level l)
-
-  inside : 1 ≤ level → level ≤ n → (leb level 0 || ltb n level) ≡ false
-  inside low high = or_from _ _ (lt-leb level 0 low) (le-ltb n level high)
-
-  pub read_no_task : (f : Fault) → some_short rows order bounds ≡ false → 1 ≤ level → level ≤ n → n ≤ get_or order (level - 1) 0 → f ≡ in_plan NoSuchTask 0 → Read kind level ready (refused f) ready
-  read_no_task f e low high past is = not_read (inr (e, inr (inside low high, inl (le-leb n (get_or order (level - 1) 0) past, sym is))))
-
-  pub reads : n ≤ 32 → (x : R) (id : ℕ) → some_short rows order bounds ≡ false → 1 ≤ level → level ≤ n → get_or order (level - 1) 0 < n → x ≡ get_or rows (get_or order (level - 1) 0) x → id ≡ kind.ident x → Read kind level ready (told id (get_or bounds (level - 1) 0)) ready
-  reads few x id e low high below x_is id_is =
-      let within : get_or order (level - 1) 0 < length rows = omega (arith, (long_all kind rows order bounds e).0) in
-      let there : row_of kind (take n rows) (get_or order (level - 1) 0) ≡ x = get_or-take n rows (get_or order (level - 1) 0) kind.blank below ∙ sym (get_or_read rows (get_or order (level - 1) 0) x within x_is kind.blank) in
-      let answer : told_at ≡ told id (get_or bounds (level - 1) 0) = ap (λ (k : ℕ). told k (get_or bounds (level - 1) 0)) (ap kind.ident there ∙ sym id_is) in
-      subst (λ (a : Answer). Read kind level ready a ready) answer (read_at (e, (inside low high, (lt-leb n (get_or order (level - 1) 0) below, tt))))
+  pub not_removed : {id : ℕ} {f : PlanFault} → remove_fault kind rows n id ≡ Some f → after ≡ rows → Withdraw kind id (opened n rows order bounds) (refused (Plan f)) (opened n after order bounds)
+  not_removed {id} {f} e is = rw is (not_withdrawn (met kind rows n few _ (withdraw_checks kind n rows id) f (remove_first kind rows n few id) e))
 
 pub reopen_means : {R : Type 0} → ReopenMeans R
 reopen_means {R} kind plan after rows order bounds = (λ e. rw e reopened, λ c. sym (back c refl))

@@ -1,11 +1,12 @@
 -- What the assignment of priorities leaves in the memories of a plan. Assumes nothing.
-use Rattle.std.specs.Prelude.{◌≡◌, ℕ, ◌≤◌, List, [], length, Ok, Err, Result, count_ones}
+use Rattle.std.specs.Prelude.{◌≡◌, ℕ, ◌≤◌, List, [], length, Ok, Err, Result}
 use Rattle.model.specs.Rows.{Kind}
 use Rattle.feasibility.specs.Tests.{Answers}
 use Rattle.feasibility.specs.Masks.{mask_of}
 use Rattle.table.specs.Tables.{capacity, written}
 use Rattle.assign.specs.Assignment.{accepted, stuck}
 use Rattle.assign.specs.Laws.{Arranges}
+use Rattle.assign.specs.Counts.{tasks_in}
 use Rattle.assign.specs.declared.order.Left.{Left}
 
 pub record OrderFound {R : Type 0} (kind : Kind R) (test : Answers R) (table : List R) (order order' bounds bounds' : List ℕ) (questions : ℕ) : Type 0 where
@@ -19,8 +20,8 @@ pub record NoOrderFound {R : Type 0} (kind : Kind R) (test : Answers R) (table :
   pub left : List ℕ
   pub found : Arranges kind test table (stuck left s.questions)
   pub mask_is : s.mask ≡ mask_of left
-  pub counted : count_ones s.mask ≡ length left
-  pub few_left : count_ones s.mask ≤ capacity
+  pub counted : tasks_in s.mask ≡ length left
+  pub few_left : tasks_in s.mask ≤ capacity
   pub order_is : order' ≡ written 0 [] order
   pub bounds_is : bounds' ≡ written 0 [] bounds
 

@@ -7,6 +7,7 @@ pub mod arranged_calls;
 pub mod open_calls;
 
 // A plan whose rows may change.
+// By a rule of the project each stage is a type of its own, of plain numbers, so the accessor `tasks` stands at both.
 #[derive(Drop)]
 pub struct Open {
     tasks: usize,

@@ -9,25 +9,28 @@ use feasibility::whole_job::WholeJob;
 use model::row::Row;
 use model::whole::Whole;
 use plan::stage::{Arranged, NotArranged, Open};
+use report::fields::REPORT_BYTES;
 use report::order::report_plan;
+use sheet::bytes::{END, WHOLE, WHOLE_TASK};
 use std::io;
 use std::io::Write;
-use transcript::{print_answer, print_loaded, print_read, print_refusal};
+use table::rows::CAPACITY;
+use transcript::print_answer;
 
 // What is lent to each call: the rows, and the order and bounds that arrange writes. 32 entries each are enough for every plan.
 #[derive(Drop)]
 struct Memory {
-    rows: [Whole; 32],
-    order: [u8; 32],
-    bounds: [u32; 32],
+    rows: [Whole; CAPACITY],
+    order: [u8; CAPACITY],
+    bounds: [u32; CAPACITY],
 }
 
 impl Memory {
     fn new() -> Memory {
         Memory {
-            rows: [Whole::blank(); 32],
-            order: [0; 32],
-            bounds: [0; 32],
+            rows: [Whole::blank(); CAPACITY],
+            order: [0; CAPACITY],
+            bounds: [0; CAPACITY],
         }
     }
 }
@@ -55,7 +58,7 @@ fn enter_tasks(rt: HostRuntime, plan: &mut Open, rows: &mut [Whole]) -> io::Resu
     )?;
     print_answer(rt, "amend 11", plan.amend(rows, task(11, 50, 1, 0)))?;
     print_answer(rt, "withdraw 11", plan.withdraw(rows, 11))?;
-    let mut few = [Whole::blank(); 31];
+    let mut few = [Whole::blank(); CAPACITY - 1];
     print_answer(
         rt,
         "enter 11 into 31 entries",
@@ -66,9 +69,9 @@ fn enter_tasks(rt: HostRuntime, plan: &mut Open, rows: &mut [Whole]) -> io::Resu
 // An order is read only off an arranged plan. Past its tasks there is no level.
 fn read_levels(rt: HostRuntime, plan: &Arranged, memory: &Memory) -> io::Result<()> {
     for level in 1..=plan.tasks() + 1 {
-        print_read(
+        print_answer(
             rt,
-            level,
+            format_args!("read level {level}"),
             plan.read(&memory.rows, &memory.order, &memory.bounds, level),
         )?;
     }
@@ -77,7 +80,7 @@ fn read_levels(rt: HostRuntime, plan: &Arranged, memory: &Memory) -> io::Result<
 
 // The report is built in memory of at least 1,024 bytes; its length is answered.
 fn print_report(rt: HostRuntime, plan: &Arranged, memory: &Memory) -> io::Result<()> {
-    let mut report = [0u8; 1024];
+    let mut report = [0; REPORT_BYTES];
     match report_plan(
         plan,
         &memory.rows,
@@ -89,7 +92,7 @@ fn print_report(rt: HostRuntime, plan: &Arranged, memory: &Memory) -> io::Result
             println!(rt; "report: {length} bytes")?;
             rt.stdout().write_all(&report[..length])
         }
-        Err(fault) => print_refusal(rt, "report", fault),
+        Err(fault) => println!(rt; "report: refused {fault}"),
     }
 }
 
@@ -105,14 +108,15 @@ fn arrange(rt: HostRuntime, plan: Open, memory: &mut Memory) -> io::Result<Open>
             println!(rt; "reopen: done")?;
             Ok(arranged.reopen())
         }
-        Err(refused) => {
-            let NotArranged {
+        Err(
+            NotArranged {
                 plan,
                 fault,
                 left,
                 questions,
-            } = refused;
-            print_refusal(rt, "arrange", fault)?;
+            },
+        ) => {
+            println!(rt; "arrange: refused {fault}")?;
             println!(rt; "places left: {left:#b}, questions: {questions}")?;
             Ok(plan)
         }
@@ -123,11 +127,11 @@ fn arrange(rt: HostRuntime, plan: Open, memory: &mut Memory) -> io::Result<Open>
 fn load_sheets(rt: HostRuntime, plan: &mut Open, rows: &mut [Whole]) -> io::Result<()> {
     // The kind, the letter, one task and the end: id 3, T = D = 10, C = 4, S = 5.
     let sheet = [
-        0x57, 0x4A, 0x56, 0, 3, 0, 0, 0, 10, 0, 0, 0, 10, 0, 0, 0, 4, 0, 0, 0, 5, 0x51,
+        WHOLE, b'J', WHOLE_TASK, 0, 3, 0, 0, 0, 10, 0, 0, 0, 10, 0, 0, 0, 4, 0, 0, 0, 5, END,
     ];
-    print_loaded(rt, "load a sheet cut short", plan.load(&sheet[0..21], rows))?;
+    print_answer(rt, "load a sheet cut short", plan.load(&sheet[..21], rows))?;
     println!(rt; "tasks: {}", plan.tasks())?;
-    print_loaded(rt, "load the whole sheet", plan.load(&sheet, rows))?;
+    print_answer(rt, "load the whole sheet", plan.load(&sheet, rows))?;
     println!(rt; "tasks: {}", plan.tasks())
 }
 

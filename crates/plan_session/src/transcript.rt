@@ -1,48 +1,56 @@
 // Calls and their answers, a line each.
-use std::io;
+use std::fmt::Display;
+use std::{fmt, io};
 use table::fault::Fault;
 
-// A refusal's number, the layer that met it and the place there. Where a sheet's fault holds one of the plan, that one's layer and place come first.
-pub fn print_refusal(rt: HostRuntime, call: &str, fault: Fault) -> io::Result<()> {
-    let number = fault.refusal().number();
-    let layer = char::from(fault.layer().letter());
-    let place = fault.place();
-    match fault.inner() {
-        Some(inner) => {
-            let row = inner.place;
-            println!(rt; "{call}: refused {number} P {row} {layer} {place}")
+// What a call answers where it is not refused.
+#[derive(Clone, Copy)]
+pub enum Answer {
+    Done,
+    // The letter of a loaded sheet's test.
+    Loaded(u8),
+    // The id and the bound of the task at a level.
+    Read(u16, u32),
+}
+
+impl From<()> for Answer {
+    fn from((): ()) -> Answer {
+        Answer::Done
+    }
+}
+
+impl From<u8> for Answer {
+    fn from(letter: u8) -> Answer {
+        Answer::Loaded(letter)
+    }
+}
+
+impl From<(u16, u32)> for Answer {
+    fn from((id, bound): (u16, u32)) -> Answer {
+        Answer::Read(id, bound)
+    }
+}
+
+impl Display for Answer {
+    fn fmt<W: fmt::Write>(&self, f: &mut fmt::Formatter<W>) -> fmt::Result {
+        match *self {
+            Answer::Done => write!(f, "done"),
+            Answer::Loaded(letter) => write!(f, "test {}", char::from(letter)),
+            Answer::Read(id, bound) => write!(f, "task {id} within {bound}"),
         }
-        None => println!(rt; "{call}: refused {number} {layer} {place}"),
     }
 }
 
-pub fn print_answer(rt: HostRuntime, call: &str, answer: Result<(), Fault>) -> io::Result<()> {
-    match answer {
-        Ok(()) => println!(rt; "{call}: done"),
-        Err(fault) => print_refusal(rt, call, fault),
-    }
-}
-
-pub fn print_loaded(rt: HostRuntime, call: &str, answer: Result<u8, Fault>) -> io::Result<()> {
-    match answer {
-        Ok(letter) => {
-            let letter = char::from(letter);
-            println!(rt; "{call}: test {letter}")
-        }
-        Err(fault) => print_refusal(rt, call, fault),
-    }
-}
-
-pub fn print_read(
+pub fn print_answer<C: Display + Drop, T: Into<Answer> + Drop>(
     rt: HostRuntime,
-    level: usize,
-    answer: Result<(u16, u32), Fault>,
+    call: C,
+    answer: Result<T, Fault>,
 ) -> io::Result<()> {
     match answer {
-        Ok((id, bound)) => println!(rt; "read level {level}: task {id} within {bound}"),
-        Err(fault) => {
-            print!(rt; "read level {level}")?;
-            print_refusal(rt, "", fault)
+        Ok(answer) => {
+            let answer: Answer = answer.into();
+            println!(rt; "{call}: {answer}")
         }
+        Err(fault) => println!(rt; "{call}: refused {fault}"),
     }
 }

@@ -2,22 +2,18 @@
 #![tactic(auto)]
 
 use anyhow::anyhow;
-use planning::plan_sheet;
+use planning::{REPORT_BYTES, plan_sheet};
 use std::io::{Read, Write};
 
-// How many bytes of the input are taken.
+// How many bytes of the input are taken, by a rule of the project.
 const SHEET_BYTES: u64 = 4096;
 
-fn run(rt: &HostRuntime) -> anyhow::Result<()> {
+fn main(rt: HostRuntime) -> anyhow::Result<()> {
     let mut sheet = Vec::new(rt.alloc());
     rt.stdin().take(SHEET_BYTES).read_to_end(&mut sheet)?;
-    let mut report = [0u8; 1024];
-    match plan_sheet(&sheet, &mut report) {
-        Ok(written) => Ok(rt.stdout().write_all(&report[..written])?),
-        Err(_) => Err(anyhow!("the report does not fit")),
-    }
-}
-
-fn main(rt: HostRuntime) -> anyhow::Result<()> {
-    run(&rt)
+    // By a rule of the project the program keeps no more bytes of a report.
+    let mut report = [0; REPORT_BYTES];
+    let written = plan_sheet(&sheet, &mut report).map_err(|_| anyhow!("the report does not fit"))?;
+    rt.stdout().write_all(&report[..written])?;
+    Ok(())
 }

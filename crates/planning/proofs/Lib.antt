@@ -1,4 +1,4 @@
 pub mod Orders
 pub mod Reported
 pub mod Arranged
-pub mod Loaded
+pub mod Loads

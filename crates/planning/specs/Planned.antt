@@ -66,11 +66,5 @@ Planning sheet report = cond (slice_index sheet 0 == whole_byte) (WholePlanned s
 abbrev pub Plans : (List ℕ → List ℕ → Type 0) → List ℕ → List ℕ → List ℕ → Result ℕ Fault → Type 0
 Plans planned sheet before after r = (report : List ℕ) × planned sheet report × Writes report before after r
 
-abbrev pub PlansSegmented : List ℕ → List ℕ → List ℕ → Result ℕ Fault → Type 0
-PlansSegmented sheet before after r = Plans SegmentedPlanned sheet before after r
-
-abbrev pub PlansWhole : List ℕ → List ℕ → List ℕ → Result ℕ Fault → Type 0
-PlansWhole sheet before after r = Plans WholePlanned sheet before after r
-
 abbrev pub PlansSheet : List ℕ → List ℕ → List ℕ → Result ℕ Fault → Type 0
 PlansSheet sheet before after r = Plans Planning sheet before after r

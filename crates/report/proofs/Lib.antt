@@ -1,3 +1,2 @@
 pub mod Memory
-pub mod Widths
 pub mod Orders

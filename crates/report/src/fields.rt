@@ -1,50 +1,51 @@
-// Bytes and decimal numbers, written one after the other into a memory. Each function answers the place after what it wrote.
-ghost use Rattle.std.specs.Prelude.{◌+◌, ◌<◌, ◌≤◌, [], ◌∷◌, ◌++◌, length, decimal};
-ghost use Rattle.report.specs.Memory.{Puts};
+// Bytes and decimal numbers, written one after the other into a memory.
+ghost use Rattle.std.specs.Prelude.{◌+◌, ◌≤◌, [], ◌∷◌, ◌++◌, length};
+ghost use Rattle.report.specs.Memory.{Appends};
 
-pub(crate) const SPACE: u8 = 0x20;
+use itoa::{Buffer, Integer};
 
-pub(crate) const NEWLINE: u8 = 0x0A;
+pub(crate) const SPACE: u8 = b' ';
+
+pub(crate) const NEWLINE: u8 = b'\n';
 
 // How many bytes a report's memory has at least.
 pub const REPORT_BYTES: usize = 1024;
 
-pub(crate) fn put_byte(memory: &mut [u8], at: usize, byte: u8) -> usize
-    requires { at < length memory.old }
-    ensures { Puts memory.old at (byte ∷ []) memory.new result }
-{
-    memory[at] = byte;
-    at + 1
+// A memory, and the place in it where the next byte goes.
+// Not a sink of `write!`: std promises the text only where the sink answers Ok, and in memory long enough a report is never refused.
+#[derive(Drop)]
+pub(crate) struct Writer<'a> {
+    pub(crate) memory: &'a mut [u8],
+    pub(crate) at: usize,
 }
 
-pub(crate) fn put_text(memory: &mut [u8], at: usize, text: &[u8]) -> usize
-    requires { at + length text.now ≤ length memory.old }
-    ensures { Puts memory.old at text.now memory.new result }
-{
-    for (i, byte) in text.iter().enumerate() {
-        memory[at + i] = *byte;
+impl Writer<'_> {
+    pub(crate) fn text(&mut self, text: &[u8])
+        requires { self.old.at + length text.now ≤ length self.old.memory.now }
+        ensures { Appends self.old text.now self.new }
+    {
+        let end = self.at + text.len();
+        self.memory[self.at..end].copy_from_slice(text);
+        self.at = end;
     }
-    at + text.len()
-}
 
-// The number in decimal, without leading zeros.
-pub(crate) fn put_number(memory: &mut [u8], at: usize, number: u64) -> usize
-    requires { at + length (decimal number) ≤ length memory.old }
-    ensures { Puts memory.old at (decimal number) memory.new result }
-{
-    let digit = b'0' + (number % 10) as u8;
-    if number < 10 {
-        return put_byte(memory, at, digit);
+    // The number in decimal, without leading zeros.
+    pub(crate) fn number<I: Integer>(&mut self, number: I)
+        requires { self.old.at + I.MAX_STR_LEN ≤ length self.old.memory.now }
+        ensures appends { Appends self.old (I.text number) self.new }
+        ensures short { self.new.at ≤ self.old.at + I.MAX_STR_LEN }
+    {
+        let mut buffer = Buffer::new();
+        self.text(buffer.format(number).as_bytes());
     }
-    let last = put_number(memory, at, number / 10);
-    put_byte(memory, last, digit)
-}
 
-// A number and the byte that ends its field.
-pub(crate) fn put_field(memory: &mut [u8], at: usize, number: u64, end: u8) -> usize
-    requires { at + length (decimal number) + 1 ≤ length memory.old }
-    ensures { Puts memory.old at (decimal number ++ end ∷ []) memory.new result }
-{
-    let next = put_number(memory, at, number);
-    put_byte(memory, next, end)
+    // A number and the byte that ends its field.
+    pub(crate) fn field<I: Integer>(&mut self, number: I, end: u8)
+        requires { self.old.at + I.MAX_STR_LEN + 1 ≤ length self.old.memory.now }
+        ensures appends { Appends self.old (I.text number ++ end ∷ []) self.new }
+        ensures short { self.new.at ≤ self.old.at + I.MAX_STR_LEN + 1 }
+    {
+        self.number(number);
+        self.text(&[end]);
+    }
 }

@@ -3,6 +3,7 @@ use Rattle.std.proofs.Common.{◌≡◌, ℕ, suc, ◌+◌, ◌-◌, ◌<◌, �
 use Rattle.std.proofs.lemmas.List.{append_assoc, append-nil, length_push, set_at}
 use Rattle.model.specs.declared.segmented.Segmented.{Segmented}
 use Rattle.model.specs.Segments.{Segments, last, more, count}
+use Rattle.curves.specs.Phases.{some_segments}
 use Rattle.sheet.specs.declared.segmented.SegmentedDraft.{SegmentedDraft}
 use Rattle.sheet.specs.declared.segmented.Stage.{Stage}
 use Rattle.sheet.specs.declared.segmented.Stage.TheVariants.{BeforeSegment, AfterSegment}
@@ -27,10 +28,6 @@ filled row (more c lo hi s) = filled (and_suspension (and_segment row c) lo hi) 
 pub length_costs : (s : Segments) → length (costs_of s) ≡ count s
 length_costs (last c) = refl
 length_costs (more c lo hi s) = ap suc (length_costs s)
-
-some_segment : (s : Segments) → 1 ≤ count s
-some_segment (last c) = omega arith
-some_segment (more c lo hi s) = omega arith
 
 pad_set : (n : ℕ) (xs : List ℕ) (c i : ℕ) → length xs ≡ i → i < n → set (padded n xs) i c ≡ padded n (xs ++ c ∷ [])
 pad_set n xs c i e l =
@@ -63,8 +60,8 @@ module _ (id period deadline : ℕ) where
       let p : cs ++ c ∷ [] ++ costs_of s ≡ cs ++ c ∷ costs_of s = append_assoc cs (c ∷ []) (costs_of s) in
       let q : ls ++ lo ∷ [] ++ least_of s ≡ ls ++ lo ∷ least_of s = append_assoc ls (lo ∷ []) (least_of s) in
       let r : hs ++ hi ∷ [] ++ most_of s ≡ hs ++ hi ∷ most_of s = append_assoc hs (hi ∷ []) (most_of s) in
-      ap (λ (x : Segmented). filled (and_suspension x lo hi) s) (segment_more cs ls hs c (omega (arith, some_segment s)))
-      ∙ (ap (λ (x : Segmented). filled x s) (suspension_more (cs ++ c ∷ []) ls hs lo hi (omega (arith, length_push cs c)) (omega arith) (omega (arith, some_segment s)))
+      ap (λ (x : Segmented). filled (and_suspension x lo hi) s) (segment_more cs ls hs c (omega (arith, some_segments s)))
+      ∙ (ap (λ (x : Segmented). filled x s) (suspension_more (cs ++ c ∷ []) ls hs lo hi (omega (arith, length_push cs c)) (omega arith) (omega (arith, some_segments s)))
       ∙ (fills (cs ++ c ∷ []) (ls ++ lo ∷ []) (hs ++ hi ∷ []) s (omega (arith, length_push cs c, length_push ls lo)) (omega (arith, length_push cs c, length_push hs hi)) (omega (arith, length_push cs c))
       ∙ (λ i. listed (p i) (q i) (r i))))
 

@@ -29,10 +29,10 @@ module _ {R : Type 0} (kind : Kind R) (table : List R) (one : R) where
   fit e = on (leb 32 (length table)) (kind.lawful one) (has_id kind (kind.ident one) table) refl refl refl e
     where
       on : (a b c : Bool) → leb 32 (length table) ≡ a → kind.lawful one ≡ b → has_id kind (kind.ident one) table ≡ c → ◌≡◌ {A = Option Refusal} (cond a (Some TableFull) (cond b (cond c (Some IdTaken) None) (Some RowUnlawful))) None → Fit kind table one
-      on true b c p q r f = let z : ◌≡◌ {A = ℕ} 0 1 = cc in absurd (omega arith)
-      on false true true p q r f = let z : ◌≡◌ {A = ℕ} 0 1 = cc in absurd (omega arith)
+      on true b c p q r f = cc
+      on false true true p q r f = cc
       on false true false p q r f = record { room = leb-false 32 (length table) p; lawful = q; fresh = r }
-      on false false c p q r f = let z : ◌≡◌ {A = ℕ} 0 1 = cc in absurd (omega arith)
+      on false false c p q r f = cc
 
   pub not_barred : Fit kind table one → append_refusal kind table one ≡ None
   not_barred f = let l : leb 32 (length table) ≡ false = lt-leb 32 (length table) f.room in rw (l, f.lawful, f.fresh) refl

@@ -1,5 +1,5 @@
 -- Commands that are told by their first byte, and operands of a known length. Assumes nothing.
-use Rattle.std.proofs.Common.{◌≡◌, ℕ, zero, suc, Bool, true, false, cond, eqb, List, [], ◌∷◌, length, Some, None, Option, refl, arith}
+use Rattle.std.proofs.Common.{◌≡◌, ℕ, zero, suc, Bool, true, false, cond, eqb, List, [], ◌∷◌, length, Some, Option, refl, arith}
 use Rattle.std.proofs.lemmas.Bool.{eqb-true}
 
 -- a list of so many bytes
@@ -20,6 +20,3 @@ pick P tag m n others first e v k = on (eqb tag first) refl e
     on : (b : Bool) → eqb tag first ≡ b → cond b (Some m) others ≡ Some n → P tag n
     on true t f = let p : tag ≡ first = eqb-true tag first t in let q : n ≡ m = cc in rw (p, q) v
     on false t f = k f
-
-pub none_some : (n : ℕ) {X : Type 0} → ◌≡◌ {A = Option ℕ} None (Some n) → X
-none_some n e = let z : ◌≡◌ {A = ℕ} 0 1 = cc in absurd (omega arith)

@@ -1,7 +1,6 @@
 pub mod Total
 pub mod Steps
 pub mod Sheets
-pub mod Firsts
 pub mod Follows
 pub mod Lengths
 pub mod WholeSpelling
@@ -13,3 +12,4 @@ pub mod Writing
 pub mod Reached
 pub mod Cuts
 pub mod NinthSegments
+pub mod Replacing

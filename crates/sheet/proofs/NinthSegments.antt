@@ -31,7 +31,7 @@ Counted AfterSegment n = n ≤ 8
 
 -- a command that goes on counts so again
 passed : (d : SegmentedDraft) (x : SegmentedDraft) (b : Bool) → leb 8 d.row.count ≡ b → ◌≡◌ {A = Effect Segmented} (cond b TooManySegments Continues) Continues → (d.row.count < 8 → Counted x.stage x.row.count) → Counted (cond b d x).stage (cond b d x).row.count
-passed d x true e f k = let z : ◌≡◌ {A = ℕ} 0 1 = cc in absurd (omega arith)
+passed d x true e f k = cc
 passed d x false e f k = k (leb-false 8 d.row.count e)
 
 goes_case : {s : Stage} {tag n : ℕ} {operands : List ℕ} (one : Segmented) → View s tag n → Long n operands → segmented_effect (drafted s one) s tag ≡ Continues → Counted (segmented_next (drafted s one) s tag operands).stage (segmented_next (drafted s one) s tag operands).row.count
@@ -41,17 +41,17 @@ goes_case one end_view l f = tt
 goes_case one segment_view l f = passed (drafted BeforeSegment one) _ (leb 8 one.count) refl f (λ m. omega arith)
 goes_case one range_view l f = passed (drafted AfterSegment one) _ (leb 8 one.count) refl f (λ m. m)
 goes_case one equal_view l f = passed (drafted AfterSegment one) _ (leb 8 one.count) refl f (λ m. m)
-goes_case one task_end_view l f = let z : ◌≡◌ {A = ℕ} 0 1 = cc in absurd (omega arith)
+goes_case one task_end_view l f = cc
 
 not_completed : (b : Bool) (done : Segmented) → ◌≡◌ {A = Effect Segmented} (cond b TooManySegments Continues) (Completes done) → ⊥
-not_completed true done f = let z : ◌≡◌ {A = ℕ} 0 1 = cc in omega arith
-not_completed false done f = let z : ◌≡◌ {A = ℕ} 0 1 = cc in omega arith
+not_completed true done f = cc
+not_completed false done f = cc
 
 -- and so does one that completes a row
 enters_case : {s : Stage} {tag n : ℕ} {operands : List ℕ} (one done : Segmented) → View s tag n → Long n operands → segmented_effect (drafted s one) s tag ≡ Completes done → Counted (segmented_next (drafted s one) s tag operands).stage (segmented_next (drafted s one) s tag operands).row.count
-enters_case one done open_view l f = let z : ◌≡◌ {A = ℕ} 0 1 = cc in absurd (omega arith)
-enters_case one done short_view l f = let z : ◌≡◌ {A = ℕ} 0 1 = cc in absurd (omega arith)
-enters_case one done end_view l f = let z : ◌≡◌ {A = ℕ} 0 1 = cc in absurd (omega arith)
+enters_case one done open_view l f = cc
+enters_case one done short_view l f = cc
+enters_case one done end_view l f = cc
 enters_case one done segment_view l f = absurd (not_completed (leb 8 one.count) done f)
 enters_case one done range_view l f = absurd (not_completed (leb 8 one.count) done f)
 enters_case one done equal_view l f = absurd (not_completed (leb 8 one.count) done f)
@@ -72,18 +72,18 @@ record Eighth (stage : Stage) (one : Segmented) (command : List ℕ) : Type 0 wh
 
 eight : (n : ℕ) (b : Bool) → leb 8 n ≡ b → ◌≡◌ {A = Effect Segmented} (cond b TooManySegments Continues) TooManySegments → 8 ≤ n
 eight n true e f = leb-true 8 n e
-eight n false e f = let z : ◌≡◌ {A = ℕ} 0 1 = cc in absurd (omega arith)
+eight n false e f = cc
 
 ninth_case : {s : Stage} {tag n : ℕ} {operands : List ℕ} (one : Segmented) → View s tag n → Long n operands → segmented_effect (drafted s one) s tag ≡ TooManySegments → Counted s one.count → Eighth s one (tag ∷ operands)
-ninth_case one open_view l f k = let z : ◌≡◌ {A = ℕ} 0 1 = cc in absurd (omega arith)
-ninth_case one short_view l f k = let z : ◌≡◌ {A = ℕ} 0 1 = cc in absurd (omega arith)
-ninth_case one end_view l f k = let z : ◌≡◌ {A = ℕ} 0 1 = cc in absurd (omega arith)
+ninth_case one open_view l f k = cc
+ninth_case one short_view l f k = cc
+ninth_case one end_view l f k = cc
 ninth_case one segment_view l f k = absurd (omega (arith, eight one.count (leb 8 one.count) refl f))
 ninth_case one range_view (cons p (cons q (cons r (cons s (cons t (cons u (cons v (cons w nil)))))))) f k =
     record { after_segment = refl; eighth = omega (arith, eight one.count (leb 8 one.count) refl f); least = ((p * 256 + q) * 256 + r) * 256 + s; most = ((t * 256 + u) * 256 + v) * 256 + w; suspends = range (four p q r s) (four t u v w) }
 ninth_case one equal_view (cons p (cons q (cons r (cons s nil)))) f k =
     record { after_segment = refl; eighth = omega (arith, eight one.count (leb 8 one.count) refl f); least = ((p * 256 + q) * 256 + r) * 256 + s; most = ((p * 256 + q) * 256 + r) * 256 + s; suspends = equal (four p q r s) }
-ninth_case one task_end_view l f k = let z : ◌≡◌ {A = ℕ} 0 1 = cc in absurd (omega arith)
+ninth_case one task_end_view l f k = cc
 
 -- where the reading ends for too many segments, it stands
 record There (d : SegmentedDraft) (bytes : List ℕ) (place end : ℕ) : Type 0 where

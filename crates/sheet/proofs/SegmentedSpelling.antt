@@ -4,6 +4,7 @@ use Rattle.std.proofs.lemmas.List.{append_assoc}
 use Rattle.std.proofs.lemmas.Bool.{lt-leb, leb-false}
 use Rattle.model.specs.declared.segmented.Segmented.{Segmented}
 use Rattle.model.specs.Segments.{Segments, last, more, count}
+use Rattle.curves.specs.Phases.{some_segments}
 use Rattle.table.specs.declared.refusal.Refusal.{Refusal}
 use Rattle.sheet.specs.declared.command.Effect.{Effect}
 use Rattle.sheet.specs.declared.command.Effect.TheVariants.{Continues, Completes, Ends, TooManySegments}
@@ -44,18 +45,14 @@ module _ (j : List Segmented → Segmented → Option Refusal) where
   closes : (one : Segmented) (table all : List Segmented) (rest : List ℕ) (place : ℕ) → j table one ≡ None → Goes_on (table ++ one ∷ []) all rest → Accepted (drafted AfterSegment one) table place (task_end_byte ∷ rest) all
   closes one table all rest place f k = move (enters {operands = []} (record { stand = refl; allowed = refl }) refl f) (k _ _)
 
-  some_segment : {s : Segments} {bytes : List ℕ} → Body s bytes → 1 ≤ count s
-  some_segment (final f) = omega arith
-  some_segment (next f h b) = omega arith
-
   bodied : {s : Segments} {bytes : List ℕ} (one : Segmented) (table all : List Segmented) (rest : List ℕ) (place : ℕ) → Body s bytes → one.count + count s ≤ 8 → j table (filled one s) ≡ None → Goes_on (table ++ filled one s ∷ []) all rest → Accepted (drafted BeforeSegment one) table place (bytes ++ rest) all
   bodied one table all rest place (final {cost = c} {costs = costs} f) l fit k =
       subst (λ (b : List ℕ). Accepted (drafted BeforeSegment one) table place (segment_byte ∷ b) all) (sym (append_assoc costs (task_end_byte ∷ []) rest))
       (segment one table all (task_end_byte ∷ rest) place f (omega arith) (λ p. closes (and_segment one c) table all rest p fit k))
-  bodied one table all rest place (next {cost = c} {low = lo} {high = hi} {costs = costs} {between = between} {rest = left} f h b) l fit k =
+  bodied one table all rest place (next {cost = c} {low = lo} {high = hi} {costs = costs} {between = between} {rest = left} {segments = s} f h b) l fit k =
       subst (λ (z : List ℕ). Accepted (drafted BeforeSegment one) table place (segment_byte ∷ z) all) (sym (append_assoc costs (between ++ left) rest ∙ ap (λ (z : List ℕ). costs ++ z) (append_assoc between left rest)))
       (segment one table all (between ++ (left ++ rest)) place f (omega arith)
-      (λ p. suspends (and_segment one c) table all (left ++ rest) p h (omega (arith, some_segment b)) (λ q. bodied (and_suspension (and_segment one c) lo hi) table all rest q b (omega arith) fit k)))
+      (λ p. suspends (and_segment one c) table all (left ++ rest) p h (omega (arith, some_segments s)) (λ q. bodied (and_suspension (and_segment one c) lo hi) table all rest q b (omega arith) fit k)))
 
   opening : {id period deadline : ℕ} {bytes : List ℕ} (one : Segmented) (table all : List Segmented) (rest : List ℕ) (place : ℕ) → Opening id period deadline bytes → ((p : ℕ) → Accepted (opened id period deadline) table p rest all) → Accepted (drafted BetweenTasks one) table place (bytes ++ rest) all
   opening one table all rest place (long (two i h) (four p q r s) (four t u v w)) k =
@@ -125,14 +122,14 @@ module _ (j : List Segmented → Segmented → Option Refusal) where
 
   -- where the eighth segment is not passed
   not_passed : (one : Segmented) (d : SegmentedDraft) (table all : List Segmented) (bytes : List ℕ) (b : Bool) (stage : Stage) → leb 8 one.count ≡ b → ◌≡◌ {A = Effect Segmented} (cond b TooManySegments Continues) Continues → Left (cond b (drafted stage one) d).stage (cond b (drafted stage one) d).row table all bytes → (one.count < 8) × Left d.stage d.row table all bytes
-  not_passed one d table all bytes true stage e f p = let z : ◌≡◌ {A = ℕ} 0 1 = cc in absurd (omega arith)
+  not_passed one d table all bytes true stage e f p = cc
   not_passed one d table all bytes false stage e f p = (leb-false 8 one.count e, p)
 
   goes_case : {s : Stage} {tag n : ℕ} {operands : List ℕ} (one : Segmented) (table all : List Segmented) (rest bytes : List ℕ) → View s tag n → Long n operands → bytes ≡ tag ∷ (operands ++ rest) → segmented_effect (drafted s one) s tag ≡ Continues → Left (segmented_next (drafted s one) s tag operands).stage (segmented_next (drafted s one) s tag operands).row table all rest → Left s one table all bytes
   goes_case one table all rest bytes open_view (cons i (cons h (cons p (cons q (cons r (cons s (cons t (cons u (cons v (cons w nil)))))))))) e f left =
       with_opening table all rest bytes (long (two i h) (four p q r s) (four t u v w)) e left
   goes_case one table all rest bytes short_view (cons i (cons h (cons p (cons q (cons r (cons s nil)))))) e f left = with_opening table all rest bytes (short (two i h) (four p q r s)) e left
-  goes_case one table all rest bytes end_view nil e f left = let z : ◌≡◌ {A = ℕ} 0 1 = cc in absurd (omega arith)
+  goes_case one table all rest bytes end_view nil e f left = cc
   goes_case one table all rest bytes segment_view (cons p (cons q (cons r (cons s nil)))) e f left =
       let (l, m) = not_passed one (drafted AfterSegment (and_segment one (((p * 256 + q) * 256 + r) * 256 + s))) table all rest (leb 8 one.count) BeforeSegment refl f left in
       with_cost one table all rest bytes (four p q r s) e l m
@@ -142,17 +139,17 @@ module _ (j : List Segmented → Segmented → Option Refusal) where
   goes_case one table all rest bytes equal_view (cons p (cons q (cons r (cons s nil)))) e f left =
       let (l, m) = not_passed one (drafted BeforeSegment (and_suspension one (((p * 256 + q) * 256 + r) * 256 + s) (((p * 256 + q) * 256 + r) * 256 + s))) table all rest (leb 8 one.count) AfterSegment refl f left in
       suspended {between = suspension_short_byte ∷ p ∷ q ∷ r ∷ s ∷ []} e (equal (four p q r s)) m
-  goes_case one table all rest bytes task_end_view nil e f left = let z : ◌≡◌ {A = ℕ} 0 1 = cc in absurd (omega arith)
+  goes_case one table all rest bytes task_end_view nil e f left = cc
 
   -- no suspension or segment completes a row or ends the sheet
   neither : (b : Bool) (x : Effect Segmented) → ◌≡◌ {A = Effect Segmented} (cond b TooManySegments Continues) x → (x ≡ Ends → ⊥) × ((y : Segmented) → x ≡ Completes y → ⊥)
-  neither true x f = (λ e. let z : ◌≡◌ {A = ℕ} 0 1 = cc in omega arith, λ y e. let z : ◌≡◌ {A = ℕ} 0 1 = cc in omega arith)
-  neither false x f = (λ e. let z : ◌≡◌ {A = ℕ} 0 1 = cc in omega arith, λ y e. let z : ◌≡◌ {A = ℕ} 0 1 = cc in omega arith)
+  neither true x f = (λ e. cc, λ y e. cc)
+  neither false x f = (λ e. cc, λ y e. cc)
 
   enters_case : {s : Stage} {tag n : ℕ} {operands : List ℕ} (one done : Segmented) (table all : List Segmented) (rest bytes : List ℕ) → View s tag n → Long n operands → bytes ≡ tag ∷ (operands ++ rest) → segmented_effect (drafted s one) s tag ≡ Completes done → j table done ≡ None → Left (segmented_next (drafted s one) s tag operands).stage (segmented_next (drafted s one) s tag operands).row (table ++ done ∷ []) all rest → Left s one table all bytes
-  enters_case one done table all rest bytes open_view l e f fit left = let z : ◌≡◌ {A = ℕ} 0 1 = cc in absurd (omega arith)
-  enters_case one done table all rest bytes short_view l e f fit left = let z : ◌≡◌ {A = ℕ} 0 1 = cc in absurd (omega arith)
-  enters_case one done table all rest bytes end_view l e f fit left = let z : ◌≡◌ {A = ℕ} 0 1 = cc in absurd (omega arith)
+  enters_case one done table all rest bytes open_view l e f fit left = cc
+  enters_case one done table all rest bytes short_view l e f fit left = cc
+  enters_case one done table all rest bytes end_view l e f fit left = cc
   enters_case one done table all rest bytes segment_view l e f fit left = absurd ((neither (leb 8 one.count) (Completes done) f).1 done refl)
   enters_case one done table all rest bytes range_view l e f fit left = absurd ((neither (leb 8 one.count) (Completes done) f).1 done refl)
   enters_case one done table all rest bytes equal_view l e f fit left = absurd ((neither (leb 8 one.count) (Completes done) f).1 done refl)
@@ -161,13 +158,13 @@ module _ (j : List Segmented → Segmented → Option Refusal) where
       ended e (ap (λ (x : Segmented). j table x) (sym same) ∙ fit) (subst (λ (x : Segmented). Follows SegmentedTask j (table ++ x ∷ []) all rest) same left)
 
   ends_case : {s : Stage} {tag n : ℕ} {operands : List ℕ} (one : Segmented) (table : List Segmented) (bytes : List ℕ) → View s tag n → Long n operands → bytes ≡ tag ∷ (operands ++ []) → segmented_effect (drafted s one) s tag ≡ Ends → Left s one table table bytes
-  ends_case one table bytes open_view l e f = let z : ◌≡◌ {A = ℕ} 0 1 = cc in absurd (omega arith)
-  ends_case one table bytes short_view l e f = let z : ◌≡◌ {A = ℕ} 0 1 = cc in absurd (omega arith)
+  ends_case one table bytes open_view l e f = cc
+  ends_case one table bytes short_view l e f = cc
   ends_case one table bytes end_view nil e f = subst (λ (b : List ℕ). Follows SegmentedTask j table table b) (sym e) end
   ends_case one table bytes segment_view l e f = absurd ((neither (leb 8 one.count) Ends f).0 refl)
   ends_case one table bytes range_view l e f = absurd ((neither (leb 8 one.count) Ends f).0 refl)
   ends_case one table bytes equal_view l e f = absurd ((neither (leb 8 one.count) Ends f).0 refl)
-  ends_case one table bytes task_end_view l e f = let z : ◌≡◌ {A = ℕ} 0 1 = cc in absurd (omega arith)
+  ends_case one table bytes task_end_view l e f = cc
 
   left : {d : SegmentedDraft} {table all : List Segmented} {place : ℕ} {bytes : List ℕ} → Accepted d table place bytes all → Left d.stage d.row table all bytes
   left {d} {table} {all} {place} {bytes} (stop (ends {tag = tag} {operands = xs} c e)) =

@@ -1,15 +1,21 @@
 -- One command at a place of the sheet. Assumes nothing.
-use Rattle.std.proofs.Common.{◌≡◌, ℕ, ◌+◌, ◌-◌, ◌<◌, ◌≤◌, Bool, true, false, cond, ltb, List, [], ◌∷◌, ◌++◌, length, get_or, take, drop, Some, None, Ok, Err, Option, Result, sym, refl, ap, ◌∙◌, subst, arith}
-use Rattle.std.proofs.lemmas.List.{take_rest, drop_more, drop-drop, length-drop, drop_all}
+use Rattle.std.proofs.Common.{◌≡◌, ℕ, ◌+◌, ◌<◌, ◌≤◌, Bool, true, false, cond, ltb, List, [], ◌∷◌, length, set, take, drop, Some, None, Ok, Err, Option, Result, refl, ap, subst, arith}
+use Rattle.std.proofs.lemmas.List.{nil_from_length, length-take-le, take_more_set}
+use Rattle.model.specs.Rows.{Kind}
+use Rattle.table.specs.declared.fault.Fault.TheVariants.{RowInSheet}
+use Rattle.table.specs.declared.fault.PlanFault.{PlanFault}
+use Rattle.table.specs.Tables.{append_fault, append_refusal}
+use Rattle.table.proofs.Appends.{barred, not_barred, not_full}
+use Rattle.std.proofs.lemmas.Result.{err_from_is_err_and}
+use Rattle.std.specs.Result.{MatchResult, IsErrAnd}
 use Rattle.sheet.specs.declared.command.CommandFault.{CommandFault}
 use Rattle.sheet.specs.declared.command.CommandFault.TheVariants as command_fault
 use Rattle.table.specs.declared.refusal.Refusal.{Refusal}
-use Rattle.table.specs.Faults.{bytes_after_at, cut_at, row_refused_at}
+use Rattle.table.specs.Faults.{bytes_after_at, cut_at}
 use Rattle.sheet.specs.declared.command.Effect.{Effect}
-use Rattle.sheet.specs.declared.command.Effect.TheVariants.{Continues, Completes, Ends}
+use Rattle.sheet.specs.declared.command.Effect.TheVariants.{Completes, Ends}
 use Rattle.sheet.specs.Commands.{command_answer, command_left, answer_with, left_with, fault_at}
-use Rattle.sheet.specs.Readers.{after_call}
-use Rattle.sheet.specs.Language.{Grammar, Outcome, accepted, refused, After, stops, moves, Step, missing, Parses, stop, move}
+use Rattle.sheet.specs.Language.{Grammar, accepted, refused, After, stops, moves, Step}
 use Rattle.sheet.proofs.Total.{begun, acted, ended, step_holds}
 
 module _ {S R : Type 0} (g : Grammar S R) (j : List R → R → Option Refusal) (s : S) (table : List R) (place : ℕ) where
@@ -19,80 +25,65 @@ module _ {S R : Type 0} (g : Grammar S R) (j : List R → R → Option Refusal) 
     where
       on : (t : Bool) → ◌≡◌ {A = Result (Effect R × ℕ) CommandFault} (Err b) (cond t (Err command_fault.Cut) (Ok (g.effect s tag (take n rest), n))) → ◌≡◌ {A = After S R} (stops (refused (fault_at b place))) (cond t (stops (refused (cut_at place))) (acted g j s table place (g.effect s tag (take n rest)) (g.next s tag (take n rest)) n (drop n rest)))
       on true f = let h : b ≡ command_fault.Cut = cc in rw h refl
-      on false f = let z : ◌≡◌ {A = ℕ} 0 1 = cc in absurd (omega arith)
+      on false f = cc
 
   good_with : (tag : ℕ) (rest : List ℕ) (o : Option ℕ) (f : Effect R) (n : ℕ) → Ok (f, n) ≡ answer_with g s tag rest o → acted g j s table place f (left_with g s tag rest o) n (drop n rest) ≡ begun g j s table place o tag rest
-  good_with tag rest None f n e = let z : ◌≡◌ {A = ℕ} 0 1 = cc in absurd (omega arith)
+  good_with tag rest None f n e = cc
   good_with tag rest (Some m) f n e = on (ltb (length rest) m) e
     where
       on : (t : Bool) → ◌≡◌ {A = Result (Effect R × ℕ) CommandFault} (Ok (f, n)) (cond t (Err command_fault.Cut) (Ok (g.effect s tag (take m rest), m))) → ◌≡◌ {A = After S R} (acted g j s table place f (cond t s (g.next s tag (take m rest))) n (drop n rest)) (cond t (stops (refused (cut_at place))) (acted g j s table place (g.effect s tag (take m rest)) (g.next s tag (take m rest)) m (drop m rest)))
-      on true h = let z : ◌≡◌ {A = ℕ} 0 1 = cc in absurd (omega arith)
+      on true h = cc
       on false h =
           let both : ◌≡◌ {A = Effect R × ℕ} (f, n) (g.effect s tag (take m rest), m) = cc in
           let p : f ≡ g.effect s tag (take m rest) = ap (λ (x : Effect R × ℕ). x.0) both in
           let q : n ≡ m = ap (λ (x : Effect R × ℕ). x.1) both in
           rw (p, q) refl
 
-  pub at_end : (bytes : List ℕ) → length bytes ≤ place → Step g j s table place (drop place bytes) (stops (refused (cut_at place)))
-  at_end bytes l = missing (drop_all place bytes l)
+  module _ {bytes : List ℕ} {tag : ℕ} {rest : List ℕ} (stand : bytes ≡ tag ∷ rest) where
+    from_step : (x : After S R) → x ≡ begun g j s table place (g.takes s tag) tag rest → Step g j s table place bytes x
+    from_step x e = rw (stand, e) (step_holds g j s table place (tag ∷ rest))
 
-  module _ (bytes : List ℕ) (within : place < length bytes) where
-    abbrev pub rest_of : List ℕ
-    rest_of = take (length bytes - (place + 1)) (drop (place + 1) bytes)
+    pub bad_at : (b : CommandFault) → Err b ≡ command_answer g s tag rest → Step g j s table place bytes (stops (refused (fault_at b place)))
+    bad_at b e = from_step (stops (refused (fault_at b place))) (bad_with tag rest (g.takes s tag) b e)
 
-    begins : drop place bytes ≡ get_or bytes place 0 ∷ rest_of
-    begins = drop_more bytes place 0 within ∙ ap (λ (xs : List ℕ). get_or bytes place 0 ∷ xs) (sym (take_rest bytes (place + 1)))
+    pub good_at : (f : Effect R) (n : ℕ) → Ok (f, n) ≡ command_answer g s tag rest → Step g j s table place bytes (acted g j s table place f (command_left g s tag rest) n (drop n rest))
+    good_at f n e = from_step (acted g j s table place f (command_left g s tag rest) n (drop n rest)) (good_with tag rest (g.takes s tag) f n e)
 
-    from_step : (x : After S R) → x ≡ begun g j s table place (g.takes s (get_or bytes place 0)) (get_or bytes place 0) rest_of → Step g j s table place (drop place bytes) x
-    from_step x e = rw (begins, e) (step_holds g j s table place (get_or bytes place 0 ∷ rest_of))
+    pub ended_at : (n : ℕ) → Ok (Ends, n) ≡ command_answer g s tag rest → length (drop n rest) ≡ 0 → Step g j s table place bytes (stops (accepted table))
+    ended_at n e l = let k : drop n rest ≡ [] = nil_from_length _ l in rw k at (good_at Ends n e)
 
-    pub bad_at : (b : CommandFault) → Err b ≡ command_answer g s (get_or bytes place 0) rest_of → Step g j s table place (drop place bytes) (stops (refused (fault_at b place)))
-    bad_at b e = from_step (stops (refused (fault_at b place))) (bad_with (get_or bytes place 0) rest_of (g.takes s (get_or bytes place 0)) b e)
+    pub trailing_at : (n : ℕ) → Ok (Ends, n) ≡ command_answer g s tag rest → 0 < length (drop n rest) → Step g j s table place bytes (stops (refused (bytes_after_at (place + 1 + n))))
+    trailing_at n e l = on (drop n rest) l (good_at Ends n e)
+      where
+        on : (left : List ℕ) → 0 < length left → Step g j s table place bytes (ended g j s table place n left) → Step g j s table place bytes (stops (refused (bytes_after_at (place + 1 + n))))
+        on [] l d = absurd (omega arith)
+        on (x ∷ xs) l d = d
 
-    rest_after : (n : ℕ) → drop n rest_of ≡ drop (place + 1 + n) bytes
-    rest_after n = rw (take_rest bytes (place + 1)) (drop-drop n (place + 1) bytes)
+-- a command that completes a row, which is added to the table of the first rows of a memory
+module _ {S R : Type 0} (g : Grammar S R) (kind : Kind R) (s : S) (rows : List R) (count place : ℕ) (room : 32 ≤ length rows) (few : count ≤ 32) {bytes : List ℕ} {tag : ℕ} {rest : List ℕ} (stand : bytes ≡ tag ∷ rest) (row : R) (n : ℕ) (does : Ok (Completes row, n) ≡ command_answer g s tag rest) where
+  pub barred_at : (fault : PlanFault) → append_fault kind rows count row ≡ Some fault → Step g (append_refusal kind) s (take count rows) place bytes (stops (refused (RowInSheet fault place)))
+  barred_at fault f =
+      let (why, judged, made) = barred kind rows count row room fault f in
+      let l : length (take count rows) ≡ count = length-take-le count rows (omega arith) in
+      rw (judged, l, ← made) at (good_at g (append_refusal kind) s (take count rows) place stand (Completes row) n does)
 
-    pub good_at : (done : Effect R × ℕ) (f : Effect R) → Ok done ≡ command_answer g s (get_or bytes place 0) rest_of → done.0 ≡ f → Step g j s table place (drop place bytes) (acted g j s table place f (command_left g s (get_or bytes place 0) rest_of) done.1 (drop (place + 1 + done.1) bytes))
-    good_at (h, n) f e k =
-        let e₂ : Ok (f, n) ≡ command_answer g s (get_or bytes place 0) rest_of = ap (λ (x : Effect R). Ok (x, n)) (sym k) ∙ e in
-        subst (λ (xs : List ℕ). Step g j s table place (drop place bytes) (acted g j s table place f (command_left g s (get_or bytes place 0) rest_of) n xs)) (rest_after n)
-        (from_step (acted g j s table place f (command_left g s (get_or bytes place 0) rest_of) n (drop n rest_of)) (good_with (get_or bytes place 0) rest_of (g.takes s (get_or bytes place 0)) f n e₂))
+  pub enters_at : append_fault kind rows count row ≡ None → Step g (append_refusal kind) s (take count rows) place bytes (moves (command_left g s tag rest) (take (count + 1) (set rows count row)) (place + 1 + n) (drop n rest))
+  enters_at f =
+      let l : count < 32 = not_full kind rows count row room f in
+      rw (take_more_set rows count row (omega arith)) (rw (not_barred kind rows count row room f) at (good_at g (append_refusal kind) s (take count rows) place stand (Completes row) n does))
 
-  pub ended_here : (n : ℕ) (xs : List ℕ) → length xs ≤ 0 → ended g j s table place n xs ≡ stops (accepted table)
-  ended_here n [] l = refl
-  ended_here n (x ∷ xs) l = absurd (omega arith)
+-- a call's result, of which `map_err` made m
+module _ {T E D : Type 0} {r : Result T E} {m : Result T D} (Q : E → D → Type 0) where
+  pub mapped_ok : {x : T} → m ≡ Ok x → MatchResult r (λ y. m ≡ Ok y) (λ e. IsErrAnd m (Q e)) → r ≡ Ok x
+  mapped_ok {x} is h = on r h
+    where
+      on : (r : Result T E) → MatchResult r (λ y. m ≡ Ok y) (λ e. IsErrAnd m (Q e)) → r ≡ Ok x
+      on (Ok y) h = cc
+      on (Err e) h = let (d, k, q) = err_from_is_err_and m h in cc
 
-  pub ended_before : (n : ℕ) (xs : List ℕ) → 0 < length xs → ended g j s table place n xs ≡ stops (refused (bytes_after_at (place + 1 + n)))
-  ended_before n [] l = absurd (omega arith)
-  ended_before n (x ∷ xs) l = refl
-
-  module _ (bytes : List ℕ) (within : place < length bytes) (done : Effect R × ℕ) (does : Ok done ≡ command_answer g s (get_or bytes place 0) (rest_of bytes within)) where
-    same_after : (x y : After S R) → x ≡ y → Step g j s table place (drop place bytes) y → Step g j s table place (drop place bytes) x
-    same_after x y e d = subst (λ (z : After S R). Step g j s table place (drop place bytes) z) (sym e) d
-
-    pub trailing_at : done.0 ≡ Ends → place + 1 + done.1 < length bytes → Step g j s table place (drop place bytes) (stops (refused (bytes_after_at (place + 1 + done.1))))
-    trailing_at e l =
-        same_after _ _ (sym (ended_before done.1 (drop (place + 1 + done.1) bytes) (omega (arith, length-drop (place + 1 + done.1) bytes)))) (good_at bytes within done Ends does e)
-
-    pub ended_at : done.0 ≡ Ends → length bytes ≤ place + 1 + done.1 → Step g j s table place (drop place bytes) (stops (accepted table))
-    ended_at e l =
-        same_after _ _ (sym (ended_here done.1 (drop (place + 1 + done.1) bytes) (omega (arith, length-drop (place + 1 + done.1) bytes)))) (good_at bytes within done Ends does e)
-
-    pub barred_at : (row : R) (why : Refusal) (n : ℕ) → done.0 ≡ Completes row → j table row ≡ Some why → n ≡ length table → Step g j s table place (drop place bytes) (stops (refused (row_refused_at why n place)))
-    barred_at row why n e f l =
-        same_after (stops (refused (row_refused_at why n place))) (acted g j s table place (Completes row) (command_left g s (get_or bytes place 0) (rest_of bytes within)) done.1 (drop (place + 1 + done.1) bytes)) (rw (f, l) refl) (good_at bytes within done (Completes row) does e)
-
-    pub goes_at : (t : S) (more : List R) → t ≡ command_left g s (get_or bytes place 0) (rest_of bytes within) → more ≡ table → done.0 ≡ Continues → Step g j s table place (drop place bytes) (moves t more (place + 1 + done.1) (drop (place + 1 + done.1) bytes))
-    goes_at t more e f h = rw (e, f) (good_at bytes within done Continues does h)
-
-    pub enters_at : (t : S) (more : List R) (row : R) → t ≡ command_left g s (get_or bytes place 0) (rest_of bytes within) → more ≡ table ++ row ∷ [] → done.0 ≡ Completes row → j table row ≡ None → Step g j s table place (drop place bytes) (moves t more (place + 1 + done.1) (drop (place + 1 + done.1) bytes))
-    enters_at t more row e f h k =
-        same_after (moves t more (place + 1 + done.1) (drop (place + 1 + done.1) bytes)) (acted g j s table place (Completes row) (command_left g s (get_or bytes place 0) (rest_of bytes within)) done.1 (drop (place + 1 + done.1) bytes)) (rw (k, e, f) refl) (good_at bytes within done (Completes row) does h)
-
--- what a call of the reader's step says
-module _ {S R : Type 0} (g : Grammar S R) (j : List R → R → Option Refusal) (s : S) (table : List R) (place : ℕ) (bytes : List ℕ) (t : S) (more : List R) (p : ℕ) (xs : List ℕ) (b : Bool) (o : Outcome R) where
-  pub step_on : b ≡ false → Step g j s table place bytes (after_call t more p xs (Ok b)) → Parses g j t more p xs o → Parses g j s table place bytes o
-  step_on e d r = move (rw e at d) r
-
-  pub step_ended : b ≡ true → Step g j s table place bytes (after_call t more p xs (Ok b)) → Parses g j s table place bytes (accepted more)
-  step_ended e d = stop (rw e at d)
+  pub mapped_err : {d : D} → m ≡ Err d → MatchResult r (λ y. m ≡ Ok y) (λ e. IsErrAnd m (Q e)) → (e : E) × (r ≡ Err e) × Q e d
+  mapped_err {d} is h = on r h
+    where
+      on : (r : Result T E) → MatchResult r (λ y. m ≡ Ok y) (λ e. IsErrAnd m (Q e)) → (e : E) × (r ≡ Err e) × Q e d
+      on (Ok y) h = cc
+      on (Err e) h = let (c, k, q) = err_from_is_err_and m h in let same : c ≡ d = cc in (e, refl, subst (Q e) same q)

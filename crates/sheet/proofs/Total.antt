@@ -108,11 +108,11 @@ module _ {S R : Type 0} (g : Grammar S R) (judge : List R → R → Option Refus
   same {s} {table} {place} {bytes} {o} {o₂} (stop d) (move {t = t} {table₂ = more} {place₂ = p} {left = left} e r) =
       let x : ◌≡◌ {A = After S R} (stops o) (step s table place bytes) = only_step s table place d in
       let y : ◌≡◌ {A = After S R} (moves t more p left) (step s table place bytes) = only_step s table place e in
-      let z : ◌≡◌ {A = ℕ} 0 1 = cc in absurd (omega arith)
+      cc
   same {s} {table} {place} {bytes} {o} {o₂} (move {t = t} {table₂ = more} {place₂ = p} {left = left} d r) (stop e) =
       let x : ◌≡◌ {A = After S R} (stops o₂) (step s table place bytes) = only_step s table place e in
       let y : ◌≡◌ {A = After S R} (moves t more p left) (step s table place bytes) = only_step s table place d in
-      let z : ◌≡◌ {A = ℕ} 0 1 = cc in absurd (omega arith)
+      cc
   same {s} {table} {place} {bytes} {o} {o₂} (move {t = t} {table₂ = more} {place₂ = p} {left = left} d r) (move {t = u} {table₂ = more₂} {place₂ = p₂} {left = left₂} e q) =
       let x : ◌≡◌ {A = After S R} (moves t more p left) (step s table place bytes) = only_step s table place d in
       let y : ◌≡◌ {A = After S R} (moves u more₂ p₂ left₂) (step s table place bytes) = only_step s table place e in

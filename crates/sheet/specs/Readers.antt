@@ -1,13 +1,8 @@
 -- What the reader's answers mean. Assumes nothing.
-use Rattle.std.specs.Prelude.{ℕ, Bool, cond, List, take, Ok, Err, Result}
+use Rattle.std.specs.Prelude.{ℕ, List, take, Ok, Err, Result}
 use Rattle.table.specs.declared.fault.Fault.{Fault}
 use Rattle.sheet.specs.Sheets.{Verdict, good, bad}
-use Rattle.sheet.specs.Language.{Outcome, accepted, refused, After, stops, moves}
-
--- one call: whether the sheet has ended, or a fault
-abbrev pub after_call : {S R : Type 0} → S → List R → ℕ → List ℕ → Result Bool Fault → After S R
-after_call state table place left (Ok ended) = cond ended (stops (accepted table)) (moves state table place left)
-after_call state table place left (Err f) = stops (refused f)
+use Rattle.sheet.specs.Language.{Outcome, accepted, refused}
 
 -- the whole: how many rows, or a fault
 abbrev pub outcome_of : {R : Type 0} → List R → Result ℕ Fault → Outcome R

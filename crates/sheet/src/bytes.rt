@@ -1,4 +1,5 @@
 // The bytes of kinds and commands.
+// No enum with TryFrom: it would be a step between the byte and the pair that a draft matches, and each kind of sheet has its own bytes.
 
 // Kinds of sheets.
 pub const SEGMENTED: u8 = 0x47;

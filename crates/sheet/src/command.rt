@@ -6,6 +6,7 @@ use table::fault::Fault;
 use table::refusal::Refusal;
 
 // What a command does besides changing the draft.
+// No Result: by a rule of the project the language counts the ninth segment among a command's effects, met after its operands: four outcomes.
 #[derive(Clone, Copy, Drop)]
 pub enum Effect<R> {
     Continues,
@@ -25,6 +26,7 @@ pub enum CommandFault {
 
 impl CommandFault {
     // The sheet's fault, with the place of the command.
+    // No From: the place is needed too, and a pair of both to convert from would be no plainer.
     pub fn at(self, place: usize) -> Fault
         ensures { result ≡ fault_at self place }
     {

@@ -9,26 +9,20 @@ use crate::command::CommandFault;
 pub fn operands(rest: &[u8], width: usize) -> Result<&[u8], CommandFault>
     ensures { elim result [ Ok xs ↦ (width ≤ length rest.now) × (length xs.now ≡ width) × (xs.now ≡ take width rest.now) | Err e ↦ (length rest.now < width) × (e ≡ Cut) ] }
 {
-    if rest.len() < width {
-        Err(CommandFault::Cut)
-    } else {
-        Ok(&rest[..width])
-    }
+    rest.get(..width).ok_or(CommandFault::Cut)
 }
 
-// The number of two bytes at a place.
+// The numbers of two and of four bytes at a place. Two functions, each of one call of the library: a generic one would need a trait of numbers.
 pub(crate) fn two(bytes: &[u8], at: usize) -> u16
     requires { at + 2 ≤ length bytes.now }
     ensures { result ≡ two_at bytes.now at }
 {
-    bytes[at] as u16 * 256 + bytes[at + 1] as u16
+    u16::from_be_bytes([bytes[at], bytes[at + 1]])
 }
 
-// The number of four bytes at a place.
 pub(crate) fn four(bytes: &[u8], at: usize) -> u32
     requires { at + 4 ≤ length bytes.now }
     ensures { result ≡ four_at bytes.now at }
 {
-    ((bytes[at] as u32 * 256 + bytes[at + 1] as u32) * 256 + bytes[at + 2] as u32) * 256
-        + bytes[at + 3] as u32
+    u32::from_be_bytes([bytes[at], bytes[at + 1], bytes[at + 2], bytes[at + 3]])
 }

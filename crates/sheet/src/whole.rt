@@ -45,7 +45,7 @@ impl Draft<Whole> for WholeDraft {
                     compute: four(operands, 10),
                     suspend: four(operands, 14),
                 };
-                Ok((Effect::Completes(row), 18))
+                Ok((Effect::Completes(row), operands.len()))
             }
             END => Ok((Effect::Ends, 0)),
             _ => Err(CommandFault::NotAllowed),

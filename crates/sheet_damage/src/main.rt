@@ -6,13 +6,13 @@ ghost use Rattle.std.specs.Prelude.{◌≡◌, ◌<◌, length};
 
 mod read_back;
 
-use planning::plan_sheet;
+use planning::{REPORT_BYTES, plan_sheet};
 use read_back::{Report, read_report};
-use std::fs;
 use std::str::from_utf8;
+use std::{fmt, fs};
 
 // How many changed sheets had which report.
-#[derive(Clone, Copy)]
+#[derive(Clone, Copy, Default)]
 struct Tally {
     orders: u32,
     refusals: u32,
@@ -29,18 +29,29 @@ impl Tally {
     }
 }
 
+impl fmt::Display for Tally {
+    fn fmt<W: fmt::Write>(&self, f: &mut fmt::Formatter<W>) -> fmt::Result {
+        let Tally {
+            orders,
+            refusals,
+            malformed,
+        } = *self;
+        write!(
+            f,
+            "{orders} orders, {refusals} refusals, {malformed} without a well-formed report"
+        )
+    }
+}
+
 // The report of a sheet, if it is well-formed.
 fn plan(sheet: &[u8]) -> Option<Report> {
-    let mut memory = [0u8; 1024];
+    let mut memory = [0; REPORT_BYTES];
     let length = plan_sheet(sheet, &mut memory).ok()?;
     read_report(from_utf8(&memory[..length]).ok()?)
 }
 
 fn is_refused_as_cut(sheet: &[u8]) -> bool {
-    match plan(sheet) {
-        Some(Report::Refused(refused)) => refused.is_cut(sheet.len()),
-        _ => false,
-    }
+    matches!(plan(sheet), Some(Report::Refused(refused)) if refused.is_cut(sheet.len()))
 }
 
 // How many proper prefixes of a sheet are refused as cut. The others are named.
@@ -79,31 +90,16 @@ fn changes(rt: &HostRuntime, name: &str, tally: &mut Tally) -> anyhow::Result<()
     Ok(())
 }
 
-fn run(rt: &HostRuntime) -> anyhow::Result<()> {
+fn main(rt: HostRuntime) -> anyhow::Result<()> {
     let mut cut: u32 = 0;
     for name in ["32_seg_eight_53", "32_seg_B", "32_whole_J"] {
-        cut = cut.saturating_add(cut_prefixes(rt, name)?);
+        cut = cut.saturating_add(cut_prefixes(&rt, name)?);
     }
     println!(rt; "{cut} prefixes refused with 3")?;
-    let mut tally = Tally {
-        orders: 0,
-        refusals: 0,
-        malformed: 0,
-    };
+    let mut tally = Tally::default();
     for name in ["D_less_T", "whole_J"] {
-        changes(rt, name, &mut tally)?;
+        changes(&rt, name, &mut tally)?;
     }
-    let Tally {
-        orders,
-        refusals,
-        malformed,
-    } = tally;
-    println!(rt;
-        "changes: {orders} orders, {refusals} refusals, {malformed} without a well-formed report"
-    )?;
+    println!(rt; "changes: {tally}")?;
     Ok(())
-}
-
-fn main(rt: HostRuntime) -> anyhow::Result<()> {
-    run(&rt)
 }

@@ -1,29 +1,35 @@
 // Reports as they are read back.
-ghost use Rattle.std.specs.Prelude.{◌≡◌, ◌↔◌, ℕ, ◌^◌, ◌<◌, ◌≤◌, decimal, IsTrue, MatchOption, None, ◌≢◌};
+ghost use Rattle.std.specs.Prelude.{◌≡◌, ◌↔◌, ℕ, ◌^◌, ◌<◌, ◌≤◌, [], ◌∷◌, ◌==◌, count_by, decimal, IfSome, IsTrue, MatchOption, None, ◌≢◌};
+ghost use Rattle.sheet_damage.specs.Lines.{line_count};
+ghost use Rattle.table.specs.Refusals.{layer_letter, refusal_number};
+ghost use Rattle.table.specs.declared.refusal.Layer.TheVariants.{Sheet};
+ghost use Rattle.table.specs.declared.refusal.Refusal.TheVariants.{SheetCut};
+
+use table::refusal::{Layer, Refusal};
 
 // A layer and a place in it.
 #[derive(Clone, Copy)]
 pub struct LayerPlace {
-    pub layer: u8,
+    pub layer: Layer,
     pub place: u32,
 }
 
 #[derive(Clone, Copy)]
 pub struct Refused {
-    pub number: u32,
+    pub refusal: Refusal,
     pub outer: LayerPlace,
     pub inner: Option<LayerPlace>,
 }
 
 impl Refused {
-    // Whether a sheet of this length is refused as cut: number 3, met in the sheet, at a place that it has or ends at.
+    // Whether a sheet of this length is refused as cut, in the sheet, at a place that it has or ends at.
     pub fn is_cut(&self, length: usize) -> bool
-        ensures { IsTrue result ↔ (self.now.number ≡ 3) × (self.now.outer.layer ≡ 83) × (self.now.outer.place ≤ length) × (self.now.inner ≡ None) }
+        ensures { IsTrue result ↔ (self.now.refusal ≡ SheetCut) × (self.now.outer.layer ≡ Sheet) × (self.now.outer.place ≤ length) × (self.now.inner ≡ None) }
     {
-        let met = self.outer;
-        self.number == 3
-            && met.layer == b'S'
-            && met.place as usize <= length
+        let LayerPlace { layer, place } = self.outer;
+        self.refusal == Refusal::SheetCut
+            && layer == Layer::Sheet
+            && place as usize <= length
             && self.inner.is_none()
     }
 }
@@ -39,6 +45,7 @@ pub enum Report {
 fn read_number(field: &str) -> Option<u32>
     ensures { MatchOption result ((n : ℕ) → n < 2 ^ 32 → decimal n ≢ field.now) (λ n. decimal n ≡ field.now) }
 {
+    // No slice pattern: under one the check finds no facts of the bytes.
     let text = field.as_bytes();
     if text.is_empty() || text[0] == b'+' {
         return None;
@@ -49,44 +56,50 @@ fn read_number(field: &str) -> Option<u32>
     field.parse::<u32>().ok()
 }
 
-fn read_layer(field: &str) -> Option<u8> {
+fn read_refusal(field: &str) -> Option<Refusal>
+    ensures { IfSome result (λ refusal. decimal (refusal_number refusal) ≡ field.now) }
+{
+    let number = u8::try_from(read_number(field)?).ok()?;
+    Refusal::try_from(number).ok()
+}
+
+fn read_layer(field: &str) -> Option<Layer>
+    ensures { IfSome result (λ layer. layer_letter layer ∷ [] ≡ field.now) }
+{
     match field.as_bytes() {
-        [layer] if *layer == b'P' || *layer == b'S' || *layer == b'A' => Some(*layer),
+        [letter] => Layer::try_from(*letter).ok(),
         _ => None,
     }
 }
 
+fn read_layer_place(layer: &str, place: &str) -> Option<LayerPlace>
+    ensures { IfSome result (λ met. (layer_letter met.layer ∷ [] ≡ layer.now) × (decimal met.place ≡ place.now)) }
+{
+    let layer = read_layer(layer)?;
+    let place = read_number(place)?;
+    Some(LayerPlace { layer, place })
+}
+
 // `REFUSED`, a number from 1 to 10, and a layer and a place, or two of them, the inner first.
-fn read_refusal(line: &str) -> Option<Refused> {
+fn read_refused(line: &str) -> Option<Refused> {
     let mut fields = line.split(' ');
     if fields.next()? != "REFUSED" {
         return None;
     }
-    let number = read_number(fields.next()?)?;
-    if number < 1 || number > 10 {
+    let refusal = read_refusal(fields.next()?)?;
+    let first = read_layer_place(fields.next()?, fields.next()?)?;
+    let (outer, inner) = match fields.next() {
+        None => (first, None),
+        Some(layer) => (read_layer_place(layer, fields.next()?)?, Some(first)),
+    };
+    if fields.next().is_some() {
         return None;
     }
-    let layer = read_layer(fields.next()?)?;
-    let place = read_number(fields.next()?)?;
-    let first = LayerPlace { layer, place };
-    let Some(field) = fields.next() else {
-        return Some(Refused {
-            number,
-            outer: first,
-            inner: None,
-        });
-    };
-    let layer = read_layer(field)?;
-    let place = read_number(fields.next()?)?;
-    let outer = LayerPlace { layer, place };
-    match fields.next() {
-        None => Some(Refused {
-            number,
-            outer,
-            inner: Some(first),
-        }),
-        Some(_) => None,
-    }
+    Some(Refused {
+        refusal,
+        outer,
+        inner,
+    })
 }
 
 // `ORDER` and the numbers of tasks and questions: the number of tasks.
@@ -97,10 +110,10 @@ fn read_head(line: &str) -> Option<u32> {
     }
     let tasks = read_number(fields.next()?)?;
     let _questions = read_number(fields.next()?)?;
-    match fields.next() {
-        None => Some(tasks),
-        Some(_) => None,
+    if fields.next().is_some() {
+        return None;
     }
+    Some(tasks)
 }
 
 // A level, an id, and a bound from 1 to the deadline: the level.
@@ -117,27 +130,20 @@ fn read_level(line: &str) -> Option<u32> {
 }
 
 // The report, if the text is that of one: lines that each end in a newline, a refusal alone or a head with a line for each level.
-pub fn read_report(text: &str) -> Option<Report> {
+pub fn read_report(text: &str) -> Option<Report>
+    ensures { IfSome result (λ report. count_by (λ b. b == 10) text.now ≡ line_count report) }
+{
     let mut lines = text.strip_suffix('\n')?.split('\n');
     let head = lines.next()?;
     if head.starts_with("REFUSED") {
-        let refused = read_refusal(head)?;
-        return match lines.next() {
-            None => Some(Report::Refused(refused)),
-            Some(_) => None,
-        };
+        let refused = read_refused(head)?;
+        return lines.next().is_none().then_some(Report::Refused(refused));
     }
     let tasks = read_head(head)?;
-    let mut levels: u32 = 0;
-    for line in lines {
-        levels = levels.checked_add(1)?;
-        if read_level(line)? != levels {
+    for level in 1..=tasks {
+        if read_level(lines.next()?)? != level {
             return None;
         }
     }
-    if levels == tasks {
-        Some(Report::Order(tasks))
-    } else {
-        None
-    }
+    lines.next().is_none().then_some(Report::Order(tasks))
 }

@@ -1,10 +1,9 @@
 -- Lawful tables, row by row. Assumes nothing.
-use Rattle.std.proofs.Common.{◌≡◌, ℕ, ◌+◌, ◌-◌, ◌<◌, Bool, true, false, List, [], ◌∷◌, ◌++◌, length, get_or, take, Some, sym, refl, ap, ◌∙◌, subst, inl, inr, arith}
-use Rattle.std.proofs.lemmas.List.{take_more, length_push, get_or_push, get_or_append_left}
+use Rattle.std.proofs.Common.{◌≡◌, ℕ, ◌+◌, ◌<◌, true, false, List, [], ◌∷◌, ◌++◌, length, get_or, take, Some, sym, ap, ◌∙◌, inl, inr, arith}
+use Rattle.std.proofs.lemmas.List.{take_more, length_push, get_or_push, get_or_append_left, get_or_read}
 use Rattle.std.proofs.lemmas.Bool.{cases_lt, both_ways}
 use Rattle.model.specs.Rows.{Kind}
 use Rattle.table.specs.declared.refusal.Refusal.{Refusal}
-use Rattle.table.specs.declared.refusal.Refusal.TheVariants.{RowUnlawful, IdTaken}
 use Rattle.table.specs.Tables.{has_id, row_refusal, plan_fault, LawfulTable, FirstFault}
 use Rattle.table.proofs.Ids.{one_at}
 
@@ -38,24 +37,10 @@ module _ {R : Type 0} (kind : Kind R) where
                 both_ways _ n (one_at kind (kind.ident row) table i kind.blank at_i (ap kind.ident (sym (earlier i at_i)) ∙ (e ∙ ap kind.ident (newest j (omega (arith, length_push table row))))))
           ]
 
-  pub lawful_more : (rows : List R) (i : ℕ) → i < length rows → LawfulTable kind (take i rows) → kind.lawful (get_or rows i kind.blank) ≡ true → has_id kind (kind.ident (get_or rows i kind.blank)) (take i rows) ≡ false → LawfulTable kind (take (i + 1) rows)
-  lawful_more rows i m t l n = subst (λ (xs : List R). LawfulTable kind xs) (sym (take_more rows i kind.blank m)) (lawful_push (take i rows) (get_or rows i kind.blank) t l n)
+  -- a row judged after lawful rows
+  module _ (rows : List R) (i : ℕ) (row : R) (l : i < length rows) (at : row ≡ get_or rows i row) (before : LawfulTable kind (take i rows)) where
+    pub lawful_more : kind.lawful row ≡ true → has_id kind (kind.ident row) (take i rows) ≡ false → LawfulTable kind (take (i + 1) rows)
+    lawful_more m n = rw (take_more rows i row l, ← at) (lawful_push (take i rows) row before m n)
 
-  -- the id of a row among the rows before it
-  pub has_before : (b : Bool) (id : ℕ) (row : R) (rows : List R) (i : ℕ) → b ≡ has_id kind id (take (i - 0) rows) → id ≡ kind.ident row → has_id kind (kind.ident row) (take i rows) ≡ b
-  has_before b id row rows i e f =
-      let z : i ≡ i - 0 = omega arith in
-      sym (e ∙ (ap (λ (n : ℕ). has_id kind n (take (i - 0) rows)) f ∙ ap (λ (k : ℕ). has_id kind (kind.ident row) (take k rows)) (sym z)))
-
-  -- the first row that fails
-  module _ (rows table : List R) (i : ℕ) (row : R) (is : rows ≡ table) (l : i < length rows) (at : row ≡ get_or rows i kind.blank) (before : LawfulTable kind (take i rows)) where
-    fault : (why : Refusal) → row_refusal kind (take i rows) row ≡ Some why → FirstFault kind table (plan_fault why i)
-    fault why e =
-        subst (λ (xs : List R). FirstFault kind xs (plan_fault why i)) is
-        (record { within = l; before = before; here = ap (row_refusal kind (take i rows)) (sym at) ∙ e })
-
-    pub unlawful : kind.lawful row ≡ false → FirstFault kind table (plan_fault RowUnlawful i)
-    unlawful n = fault RowUnlawful (rw n refl)
-
-    pub taken : kind.lawful row ≡ true → has_id kind (kind.ident row) (take i rows) ≡ true → FirstFault kind table (plan_fault IdTaken i)
-    taken n h = fault IdTaken (rw (n, h) refl)
+    pub first_fault : (why : Refusal) → row_refusal kind (take i rows) row ≡ Some why → FirstFault kind rows (plan_fault why i)
+    first_fault why e = record { within = l; before = before; here = rw (← get_or_read rows i row l at kind.blank) e }

@@ -1,4 +1,3 @@
-pub mod Blanks
 pub mod Ids
 pub mod Parts
 pub mod Judges

@@ -1,5 +1,5 @@
 -- Faults: the refusal, the outermost layer and the place there, and the plan's fault inside a sheet's. Assumes nothing.
-use Rattle.std.specs.Prelude.{ℕ, Some, None, Option}
+use Rattle.std.specs.Prelude.{ℕ, List, [], ◌∷◌, ◌++◌, Some, None, Option, decimal}
 use Rattle.table.specs.declared.fault.PlanFault.{PlanFault}
 use Rattle.table.specs.declared.fault.Fault.{Fault}
 use Rattle.table.specs.declared.fault.Fault.TheVariants.{Plan, Assignment, InSheet, RowInSheet}
@@ -7,6 +7,7 @@ use Rattle.table.specs.declared.refusal.Layer.{Layer}
 use Rattle.table.specs.declared.refusal.Layer.TheVariants as layer
 use Rattle.table.specs.declared.refusal.Refusal.{Refusal}
 use Rattle.table.specs.declared.refusal.Refusal.TheVariants.{ByteNotAllowed, SheetCut, TooManySegments, BytesAfterEnd, NoTaskFits}
+use Rattle.table.specs.Refusals.{layer_letter, refusal_number}
 
 abbrev pub fault_refusal : Fault → Refusal
 fault_refusal (Plan f) = f.refusal
@@ -48,3 +49,15 @@ bytes_after_at place = InSheet BytesAfterEnd place
 -- a row that a sheet's command at `place` would have put at table place `row`
 abbrev pub row_refused_at : Refusal → ℕ → ℕ → Fault
 row_refused_at why row place = RowInSheet (record { refusal = why; place = row }) place
+
+-- a layer and the place in it
+abbrev pub site_text : Layer → ℕ → List ℕ
+site_text layer place = 0x20 ∷ layer_letter layer ∷ 0x20 ∷ decimal place
+
+abbrev pub inner_text : Option PlanFault → List ℕ
+inner_text None = []
+inner_text (Some f) = site_text layer.Plan f.place
+
+-- the refusal's number, and the layers with their places, the inner one first
+abbrev pub fault_text : Fault → List ℕ
+fault_text f = decimal (refusal_number (fault_refusal f)) ++ inner_text (fault_inner f) ++ site_text (fault_layer f) (fault_place f)

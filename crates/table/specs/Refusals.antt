@@ -1,5 +1,5 @@
 -- The number of each refusal and the letter of each layer. Assumes nothing.
-use Rattle.std.specs.Prelude.{ℕ}
+use Rattle.std.specs.Prelude.{◌≡◌, ℕ, ◌≢◌, Result, MatchResult}
 use Rattle.table.specs.declared.refusal.Layer.{Layer}
 use Rattle.table.specs.declared.refusal.Layer.TheVariants.{Plan, Sheet, Assignment}
 use Rattle.table.specs.declared.refusal.Refusal.{Refusal}
@@ -22,3 +22,7 @@ abbrev pub layer_letter : Layer → ℕ
 layer_letter Plan = 0x50
 layer_letter Sheet = 0x53
 layer_letter Assignment = 0x41
+
+-- the result is what has this code, or an error if nothing has it
+abbrev pub StandsFor : {X E : Type 0} → (X → ℕ) → ℕ → Result X E → Type 0
+StandsFor {X} code n r = MatchResult r (λ x. code x ≡ n) (λ _. (x : X) → code x ≢ n)

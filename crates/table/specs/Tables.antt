@@ -1,6 +1,6 @@
 -- Tables of rows in memory: what bars a row from a table's end, what replaces and what removes a row, which tables are lawful, and memory
 -- with blank entries after a table. Assumes nothing.
-use Rattle.std.specs.Prelude.{◌≡◌, ℕ, ◌-◌, ◌<◌, min, Bool, true, false, cond, ◌&&◌, ◌||◌, List, [], ◌∷◌, ◌++◌, length, take, drop, replicate, Some, None, Ok, Err, Option, Result, ◌==◌, ◌≢◌, nat_le, slice_index_or, slice_set}
+use Rattle.std.specs.Prelude.{◌≡◌, ℕ, ◌-◌, ◌<◌, min, Bool, true, false, cond, ◌&&◌, ◌||◌, List, [], ◌∷◌, ◌++◌, length, take, drop, replicate, Some, None, Ok, Err, Option, Result, ◌==◌, ◌≢◌, nat_le, position, slice_index_or, slice_set}
 use Rattle.std.specs.Option.{option_map}
 use Rattle.model.specs.Rows.{Kind}
 use Rattle.table.specs.declared.fault.PlanFault.{PlanFault}
@@ -51,10 +51,8 @@ Judged kind table (Ok done) = LawfulTable kind table
 Judged kind table (Err fault) = FirstFault kind table fault
 
 -- the place of the first row with an id, if one has it
-abbrev pub FirstWithId : {R : Type 0} → Kind R → ℕ → List R → Option ℕ → Type 0
-FirstWithId kind id rows None = has_id kind id rows ≡ false
-FirstWithId kind id rows (Some place) =
-    (place < length rows) × (has_id kind id (take place rows) ≡ false) × (kind.ident (slice_index_or rows place kind.blank) ≡ id)
+abbrev pub place_with_id : {R : Type 0} → Kind R → ℕ → List R → Option ℕ
+place_with_id kind id rows = position (λ row. kind.ident row == id) rows
 
 -- the table of the first `count` rows of a memory, and the memory after it; more than 32 means 32
 abbrev pub table_of : {X : Type 0} → ℕ → List X → List X
@@ -88,6 +86,11 @@ Appended kind rows count row after (Err fault) = (append_fault kind rows count r
 -- no row of a table has the id
 abbrev pub absent_fault : {R : Type 0} → Kind R → ℕ → List R → Option PlanFault
 absent_fault kind id table = cond (has_id kind id table) None (Some (plan_fault NoSuchTask 0))
+
+-- finding the first row with an id: its place, by the answer
+abbrev pub Found : {R : Type 0} → Kind R → ℕ → List R → Result ℕ PlanFault → Type 0
+Found kind id table (Ok place) = place_with_id kind id table ≡ Some place
+Found kind id table (Err fault) = absent_fault kind id table ≡ Some fault
 
 -- what bars the removal of the row with an id
 abbrev pub remove_fault : {R : Type 0} → Kind R → List R → ℕ → ℕ → Option PlanFault

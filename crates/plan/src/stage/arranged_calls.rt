@@ -4,7 +4,7 @@ ghost use Rattle.plan.specs.Calls.{Read};
 ghost use Rattle.plan.specs.Returns.{state_of, told_or_refused};
 
 use super::{Arranged, Open};
-use crate::memory::{in_plan, some_short};
+use crate::memory::some_short;
 use model::row::Row;
 use table::fault::Fault;
 use table::refusal::Refusal;
@@ -45,15 +45,12 @@ impl Arranged {
         ensures { Read R.Row.meaning level (state_of self.now rows.now order.now bounds.now) (told_or_refused result) (state_of self.now rows.now order.now bounds.now) }
     {
         if some_short(rows, order, bounds) {
-            return Err(in_plan(Refusal::ShortMemory));
+            return Err(Refusal::ShortMemory.at(0).into());
         }
-        if level == 0 || level > self.tasks {
-            return Err(in_plan(Refusal::NoSuchTask));
-        }
-        let place = order[level - 1] as usize;
-        if place >= self.tasks {
-            return Err(in_plan(Refusal::NoSuchTask));
-        }
-        Ok((rows[place].id(), bounds[level - 1]))
+        let no_task = Refusal::NoSuchTask.at(0);
+        let entry = level.checked_sub(1).ok_or(no_task)?;
+        let place = *order[..self.tasks].get(entry).ok_or(no_task)? as usize;
+        let row = rows[..self.tasks].get(place).ok_or(no_task)?;
+        Ok((row.id(), bounds[entry]))
     }
 }

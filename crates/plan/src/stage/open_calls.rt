@@ -1,17 +1,17 @@
 // The calls on an open plan.
-ghost use Rattle.std.specs.Prelude.{◌≡◌};
+ghost use Rattle.std.specs.Prelude.{◌≡◌, ◌≤◌};
 ghost use Rattle.plan.specs.Calls.{Amend, Enter, Withdraw};
 ghost use Rattle.plan.specs.Promises.{Promise};
 ghost use Rattle.plan.specs.Returns.{ArrangeReturns, Loads, OnRows, done_or_refused, letter_or_refused};
 
 use super::{Arranged, NotArranged, Open};
-use crate::memory::{in_plan, some_short};
+use crate::memory::some_short;
 use crate::order::find_order;
 use feasibility::test::Test;
 use model::row::Row;
 use sheet::draft::SheetRow;
 use sheet::sheet::parse_sheet;
-use table::fault::Fault;
+use table::fault::{Fault, PlanFault};
 use table::refusal::Refusal;
 use table::rows::{CAPACITY, append, judge_rows, remove, replace};
 
@@ -33,55 +33,39 @@ impl Open {
     pub fn enter<R: Row>(&mut self, rows: &mut [R], row: R) -> Result<(), Fault>
         ensures { OnRows (Enter R.Row.meaning row) self.old rows.old (done_or_refused result) self.new rows.new }
     {
-        match append(rows, self.tasks, row) {
-            Ok(()) => {
-                self.tasks += 1;
-                Ok(())
-            }
-            Err(fault) => Err(Fault::Plan(fault)),
-        }
+        append(rows, self.tasks, row)?;
+        self.tasks += 1;
+        Ok(())
     }
 
     // Replaces the row that has the row's own id.
     pub fn amend<R: Row>(&mut self, rows: &mut [R], row: R) -> Result<(), Fault>
         ensures { OnRows (Amend R.Row.meaning row) self.old rows.old (done_or_refused result) self.new rows.new }
     {
-        match replace(rows, self.tasks, row) {
-            Ok(()) => Ok(()),
-            Err(fault) => Err(Fault::Plan(fault)),
-        }
+        Ok(replace(rows, self.tasks, row)?)
     }
 
     // Removes the row with this id; later rows move down one.
     pub fn withdraw<R: Row>(&mut self, rows: &mut [R], id: u16) -> Result<(), Fault>
         ensures { OnRows (Withdraw R.Row.meaning id) self.old rows.old (done_or_refused result) self.new rows.new }
     {
-        match remove(rows, self.tasks, id) {
-            Ok(()) => {
-                self.tasks -= 1;
-                Ok(())
-            }
-            Err(fault) => Err(Fault::Plan(fault)),
-        }
+        remove(rows, self.tasks, id)?;
+        self.tasks -= 1;
+        Ok(())
     }
 
     // Replaces the whole table by a sheet, and answers the sheet's letter. A refused sheet leaves no task.
+    // The letter is a byte: by a rule of the project a sheet's letter is a byte of the language, and the kinds of tests are open.
     pub fn load<R: SheetRow>(&mut self, sheet: &[u8], rows: &mut [R]) -> Result<u8, Fault>
         ensures { Loads R.Row.meaning R.Draft.Draft.grammar R.Draft.Draft.mark R.Draft.Draft.letters sheet.now self.old rows.old (letter_or_refused result) self.new rows.new }
     {
         if rows.len() < CAPACITY {
             return Err(Fault::InSheet(Refusal::ShortMemory, 0));
         }
-        match parse_sheet(sheet, rows) {
-            Ok((tasks, letter)) => {
-                self.tasks = tasks;
-                Ok(letter)
-            }
-            Err(fault) => {
-                self.tasks = 0;
-                Err(fault)
-            }
-        }
+        self.tasks = 0;
+        let (tasks, letter) = parse_sheet(sheet, rows)?;
+        self.tasks = tasks;
+        Ok(letter)
     }
 
     // Judges every row again, and finds an order and its bounds by the test. The arranged plan, or the open one back.
@@ -95,33 +79,32 @@ impl Open {
         ensures arranges { ArrangeReturns R.Row.meaning Q.Test.answers self rows.now order.old order.new bounds.old bounds.new result }
         ensures promise { Promise R.Row.meaning }
     {
-        if some_short(rows, order, bounds) {
-            return Err(self.not_arranged(in_plan(Refusal::ShortMemory)));
-        }
-        if let Err(fault) = judge_rows(rows, self.tasks) {
-            return Err(self.not_arranged(Fault::Plan(fault)));
-        }
         let Open { tasks } = self;
-        match find_order(test, &rows[0..tasks], order, bounds) {
+        if some_short(rows, order, bounds) {
+            return Err(not_arranged(tasks, Refusal::ShortMemory.at(0)));
+        }
+        judge_rows(rows, tasks).map_err(|fault| not_arranged(tasks, fault))?;
+        match find_order(test, &rows[..tasks], order, bounds) {
             Ok(questions) => Ok(Arranged { tasks, questions }),
             Err(left) => Err(NotArranged {
                 plan: Open { tasks },
-                fault: Fault::Assignment(left.mask.count_ones() as usize),
+                fault: Fault::Assignment(left.tasks()),
                 left: left.mask,
                 questions: left.questions,
             }),
         }
     }
+}
 
-    // The plan given back, before any question is put.
-    fn not_arranged(self, fault: Fault) -> NotArranged
-        ensures { (result.plan.tasks ≡ self.tasks) × (result.fault ≡ fault) × (result.left ≡ 0) × (result.questions ≡ 0) }
-    {
-        NotArranged {
-            plan: self,
-            fault,
-            left: 0,
-            questions: 0,
-        }
+// The plan of so many tasks given back before any question is put, so the two numbers that a rule of the project puts beside each refusal are 0.
+fn not_arranged(tasks: usize, fault: PlanFault) -> NotArranged
+    requires { tasks ≤ CAPACITY }
+    ensures { (result.plan.tasks ≡ tasks) × (result.fault ≡ Fault.Plan fault) × (result.left ≡ 0) × (result.questions ≡ 0) }
+{
+    NotArranged {
+        plan: Open { tasks },
+        fault: fault.into(),
+        left: 0,
+        questions: 0,
     }
 }

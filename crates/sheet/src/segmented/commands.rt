@@ -30,11 +30,13 @@ impl Draft<Segmented> for SegmentedDraft {
     }
 
     fn takes_letter(letter: u8) -> bool {
-        letter == letter_of::<Segmented, WholeJob<SegmentCurve>>()
-            || letter == letter_of::<Segmented, Piecewise<SegmentCurve>>()
-            || letter == letter_of::<Segmented, WholeJob<Ceiling>>()
-            || letter
-                == letter_of::<Segmented, Better<WholeJob<SegmentCurve>, Piecewise<SegmentCurve>>>()
+        [
+            letter_of::<Segmented, WholeJob<SegmentCurve>>(),
+            letter_of::<Segmented, Piecewise<SegmentCurve>>(),
+            letter_of::<Segmented, WholeJob<Ceiling>>(),
+            letter_of::<Segmented, Better<WholeJob<SegmentCurve>, Piecewise<SegmentCurve>>>(),
+        ]
+        .contains(&letter)
     }
 
     fn start() -> SegmentedDraft {
@@ -52,55 +54,31 @@ impl Draft<Segmented> for SegmentedDraft {
         match (self.stage, byte) {
             (Stage::BetweenTasks, OPEN) => {
                 let operands = operands(rest, 10)?;
-                self.row = Segmented::blank();
-                self.row.id = two(operands, 0);
-                self.row.period = four(operands, 2);
-                self.row.deadline = four(operands, 6);
-                self.stage = Stage::BeforeSegment;
-                Ok((Effect::Continues, 10))
+                self.open(two(operands, 0), four(operands, 2), four(operands, 6));
+                Ok((Effect::Continues, operands.len()))
             }
             (Stage::BetweenTasks, OPEN_SHORT) => {
                 let operands = operands(rest, 6)?;
-                self.row = Segmented::blank();
-                self.row.id = two(operands, 0);
-                self.row.period = four(operands, 2);
-                self.row.deadline = self.row.period;
-                self.stage = Stage::BeforeSegment;
-                Ok((Effect::Continues, 6))
+                let period = four(operands, 2);
+                self.open(two(operands, 0), period, period);
+                Ok((Effect::Continues, operands.len()))
             }
             (Stage::BetweenTasks, END) => Ok((Effect::Ends, 0)),
             (Stage::BeforeSegment, SEGMENT) => {
                 let operands = operands(rest, 4)?;
-                if self.row.count >= 8 {
-                    return Ok((Effect::TooManySegments, 4));
-                }
-                self.row.costs[self.row.count as usize] = four(operands, 0);
-                self.row.count += 1;
-                self.stage = Stage::AfterSegment;
-                Ok((Effect::Continues, 4))
+                Ok((self.add_segment(four(operands, 0)), operands.len()))
             }
             (Stage::AfterSegment, SUSPENSION) => {
                 let operands = operands(rest, 8)?;
-                if self.row.count >= 8 {
-                    return Ok((Effect::TooManySegments, 8));
-                }
-                let place = self.row.count.saturating_sub(1) as usize;
-                self.row.least[place] = four(operands, 0);
-                self.row.most[place] = four(operands, 4);
-                self.stage = Stage::BeforeSegment;
-                Ok((Effect::Continues, 8))
+                Ok((
+                    self.suspend(four(operands, 0), four(operands, 4)),
+                    operands.len(),
+                ))
             }
             (Stage::AfterSegment, SUSPENSION_SHORT) => {
                 let operands = operands(rest, 4)?;
-                if self.row.count >= 8 {
-                    return Ok((Effect::TooManySegments, 4));
-                }
-                let place = self.row.count.saturating_sub(1) as usize;
                 let ticks = four(operands, 0);
-                self.row.least[place] = ticks;
-                self.row.most[place] = ticks;
-                self.stage = Stage::BeforeSegment;
-                Ok((Effect::Continues, 4))
+                Ok((self.suspend(ticks, ticks), operands.len()))
             }
             (Stage::AfterSegment, TASK_END) => {
                 self.stage = Stage::BetweenTasks;

@@ -1,14 +1,8 @@
 -- Only the byte at the place is written.
 use Rattle.std.proofs.Common.{ℕ, List, get_or, set, ap, ◌∙◌}
-use Rattle.std.proofs.lemmas.List.{set-get_or, set-set}
+use Rattle.std.proofs.lemmas.List.{set-set}
 use Rattle.sheet_damage.proofs.count_changes.Goals as goal
 use Rattle.sheet_damage.proofs.count_changes.Goals.{else-loop-step-test, then-loop-step-test+else-step-lt255}
-
-pub loop-step-init : goal.loop-step-init
-loop-step-init c = set-get_or c.args.sheet.now c.args.place 0
-
-pub loop-step-preserved : goal.loop-step-preserved
-loop-step-preserved c = set-set c.loop-step.sheet c.args.place _ _ ∙ c.loop-step.invariant
 
 pub returns : goal.returns
 returns c =

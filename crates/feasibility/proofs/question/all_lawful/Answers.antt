@@ -1,39 +1,17 @@
--- One place more, an unlawful row, and all places.
-use Rattle.std.proofs.Common.{◌≡◌, ◌<◌, min, true, false, length, sym, ap, ◌∙◌, arith}
-use Rattle.model.specs.Rows.{all_lawful}
-use Rattle.feasibility.specs.Masks.{has, row_of}
-use Rattle.feasibility.proofs.Sets.{rows_below, all_rows, lawful_yes, lawful_no, unlawful}
+-- The chain goes over the rows of the set.
+use Rattle.std.proofs.Common.{◌∙◌, arith, rules}
+use borrow.Author.Tests.{tests}
+use Rattle.std.proofs.lemmas.Iterator.{YieldsList-from_slice, YieldsList-from_take}
+use Rattle.std.proofs.lemmas.Iterator.Consumers.{YieldsList-at, YieldsList-from_enumerate, YieldsList-from_filter}
+use Rattle.std.proofs.lemmas.Iterator.Search.{all_from_yields_List}
+use Rattle.feasibility.specs.Masks.{has}
+use Rattle.feasibility.proofs.Sets.{picked_lawful}
 use Rattle.feasibility.proofs.question.all_lawful.Goals as goal
-use Rattle.feasibility.proofs.question.all_lawful.Goals.{else-holds-via-then-holds+else-not-is_lawful_at, else-holds-via-else-holds}
-
-pub returns-then-not-is_lawful_at : goal.returns-then-not-is_lawful_at
-returns-then-not-is_lawful_at g c =
-    let kind = g.R.Row.meaning in
-    let rows = c.args.rows.now in
-    let place = c.loop-place.place in
-    let here : has c.args.above place ≡ true = sym c.holds.ensures ∙ c.if-holds.true in
-    let law : kind.lawful (row_of kind rows place) ≡ false = sym c.is_lawful_at.ensures ∙ c.if-not-is_lawful_at.true in
-    let before : place < min (length rows) 32 = omega arith in
-    sym (ap (all_lawful kind) (sym (all_rows kind rows c.args.above (omega arith))) ∙ unlawful kind rows c.args.above place here law (min (length rows) 32) before)
-
-pub loop-place-preserved : goal.loop-place-preserved
-loop-place-preserved g c =
-    let kind = g.R.Row.meaning in
-    let rows = c.args.rows.now in
-    let place = c.loop-place.place in
-    elim c.else-holds.branch [
-      | else-holds-via-then-holds+else-not-is_lawful_at w ↦
-          let here : has c.args.above place ≡ true = sym c.holds.ensures ∙ w.if-holds.true in
-          let law : kind.lawful (row_of kind rows place) ≡ true = sym w.is_lawful_at.ensures ∙ w.if-not-is_lawful_at.false in
-          lawful_yes kind rows c.args.above place c.loop-place.invariant here law
-      | else-holds-via-else-holds w ↦
-          let here : has c.args.above place ≡ false = sym c.holds.ensures ∙ w.if-holds.false in
-          lawful_no kind rows c.args.above place c.loop-place.invariant here
-    ]
 
 pub returns : goal.returns
 returns g c =
     let kind = g.R.Row.meaning in
-    let rows = c.args.rows.now in
-    let end : min (length rows) 32 ≡ c.loop-place.place = omega arith in
-    sym (ap (all_lawful kind) (sym (all_rows kind rows c.args.above (omega arith))) ∙ ap (λ n. all_lawful kind (rows_below kind rows c.args.above n)) end ∙ c.loop-place.invariant)
+    all_from_yields_List (λ p. kind.lawful p.1) _ _ c.all.result c.all.ensures.ran
+    (YieldsList-from_filter _ (λ p. has c.args.above p.0) (YieldsList-at c.filter.ensures.source (YieldsList-from_enumerate (YieldsList-at c.enumerate.ensures.source (YieldsList-from_take 32 (YieldsList-from_slice c.args.rows.now cc) c.take.ensures.count)) c.enumerate.ensures.count)) c.filter.ensures.closure (λ x b q k. search (rules, tests)))
+    (λ x b q k. search (rules, tests))
+    ∙ picked_lawful kind c.args.rows.now c.args.above (omega arith)

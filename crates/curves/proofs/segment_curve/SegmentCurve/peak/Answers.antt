@@ -11,7 +11,7 @@ use Rattle.curves.proofs.segment_curve.SegmentCurve.peak.Goals.{then-best-work, 
 pub work_of-requires : goal.work_of-requires
 work_of-requires c =
     let law : LawfulRow c.args.row.now = cc in
-    record { lawful = law; known = (limits c.args.row.now law).some; short = omega arith }
+    record { known = (limits c.args.row.now law).some; short = omega arith }
 
 pub loop-phase-init : goal.loop-phase-init
 loop-phase-init c = λ i. (c.work_of.ensures i, 0)

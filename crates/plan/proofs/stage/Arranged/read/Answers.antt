@@ -1,22 +1,25 @@
-use Rattle.std.proofs.Common.{sym, inl, inr, arith}
-use Rattle.plan.proofs.Returns.{read_short, read_no_level, read_no_task, reads}
+use Rattle.std.proofs.Common.{sym}
+use Rattle.plan.proofs.Lookups.{read_short, level_zero, level_past, task_past, task_read}
+use Rattle.plan.proofs.Through.{through_none}
 use Rattle.plan.proofs.stage.Arranged.read.Goals as goal
-use Rattle.plan.proofs.stage.Arranged.read.Goals.{then-level-eq0-via-then-level-eq0, then-level-eq0-via-else-level-eq0+then-level-self}
 
 pub returns-then-some_short : goal.returns-then-some_short
-returns-then-some_short g c =
-    read_short g.R.Row.meaning c.args.rows.now c.args.order.now c.args.bounds.now c.args.self.now.tasks c.args.self.now.questions c.args.level c.in_plan.result (sym c.if-some_short.ensures) c.in_plan.ensures
+returns-then-some_short g c = rw (c.into.ensures, c.at.ensures) (read_short (sym c.if-some_short.ensures))
 
-pub returns-then-level-eq0 : goal.returns-then-level-eq0
-returns-then-level-eq0 g c =
-    read_no_level g.R.Row.meaning c.args.rows.now c.args.order.now c.args.bounds.now c.args.self.now.tasks c.args.self.now.questions c.args.level c.in_plan-then-level-eq0.result (sym c.if-some_short.ensures)
-    (elim c.then-level-eq0.branch [ then-level-eq0-via-then-level-eq0 w ↦ inl w.if-level-eq0.true | then-level-eq0-via-else-level-eq0+then-level-self w ↦ inr w.if-level-self.true ])
-    c.in_plan-then-level-eq0.ensures
+pub returns-in_err-entry : goal.returns-in_err-entry
+returns-in_err-entry g c =
+    rw (through_none _ _ _ c.from_residual.result c.in_err-entry.ensures.value c.in_err-entry.ensures.ok_part c.from_residual.ensures.1, c.at-no_task.ensures)
+    (level_zero c.args.self.now.few (sym c.if-some_short.ensures) c.checked_sub.ensures c.in_err-entry.ensures.ok_part)
 
-pub returns-then-place-self : goal.returns-then-place-self
-returns-then-place-self g c =
-    read_no_task g.R.Row.meaning c.args.rows.now c.args.order.now c.args.bounds.now c.args.self.now.tasks c.args.self.now.questions c.args.level c.in_plan-then-place-self.result (sym c.if-some_short.ensures) (omega arith) (omega arith) c.if-place-self.true c.in_plan-then-place-self.ensures
+pub returns-in_err-place : goal.returns-in_err-place
+returns-in_err-place g c =
+    rw (through_none _ _ _ c.from_residual-in_err-place.result c.in_err-place.ensures.value c.in_err-place.ensures.ok_part c.from_residual-in_err-place.ensures.1, c.at-no_task.ensures)
+    (level_past c.args.self.now.few (sym c.if-some_short.ensures) c.checked_sub.ensures c.in_ok-entry.ensures.ok_part c.get.ensures.lookup c.in_err-place.ensures.ok_part)
+
+pub returns-in_err-row : goal.returns-in_err-row
+returns-in_err-row g c =
+    rw (through_none _ _ _ c.from_residual-in_err-row.result c.in_err-row.ensures.value c.in_err-row.ensures.ok_part c.from_residual-in_err-row.ensures.1, c.at-no_task.ensures)
+    (task_past c.args.self.now.few (sym c.if-some_short.ensures) c.checked_sub.ensures c.in_ok-entry.ensures.ok_part c.get.ensures.lookup c.in_ok-place.ensures.ok_part c.get-2.ensures.lookup c.in_err-row.ensures.ok_part)
 
 pub returns : goal.returns
-returns g c =
-    reads g.R.Row.meaning c.args.rows.now c.args.order.now c.args.bounds.now c.args.self.now.tasks c.args.self.now.questions c.args.level c.args.self.now.few c.index-rows-place.result c.id.result (sym c.if-some_short.ensures) (omega arith) (omega arith) c.if-place-self.false c.index-rows-place.is c.id.ensures
+returns g c = task_read c.args.self.now.few (sym c.if-some_short.ensures) c.checked_sub.ensures c.in_ok-entry.ensures.ok_part c.get.ensures.lookup c.in_ok-place.ensures.ok_part c.get-2.ensures.lookup c.in_ok-row.ensures.ok_part c.id.ensures

@@ -1,12 +1,9 @@
 use Rattle.plan.proofs.Returns.{appended, not_appended}
+use Rattle.plan.proofs.Through.{through}
 use Rattle.plan.proofs.stage.Open.enter.Goals as goal
 
-pub returns-in-Ok : goal.returns-in-Ok
-returns-in-Ok g c order bounds =
-    let (e, is) = c.in-Ok.ensures in
-    appended g.R.Row.meaning c.args.rows.now c.args.self.now.tasks c.args.self.now.few c.append.new.rows order bounds c.args.row e is
+pub returns : goal.returns
+returns g c order bounds = let (e, is) = c.in_ok-append.ensures in appended c.args.self.now.few e is
 
-pub returns-in-Err : goal.returns-in-Err
-returns-in-Err g c order bounds =
-    let (e, is) = c.in-Err.ensures in
-    not_appended g.R.Row.meaning c.args.rows.now c.args.self.now.tasks c.args.self.now.few c.append.new.rows order bounds c.args.row c.in-Err.fault e is
+pub returns-in_err-append : goal.returns-in_err-append
+returns-in_err-append g c order bounds = let (e, is) = c.in_err-append.ensures in rw (through c.from_residual.result _ c.from_residual.ensures.1) (not_appended c.args.self.now.few e is)

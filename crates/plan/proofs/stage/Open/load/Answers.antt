@@ -1,19 +1,16 @@
 use Rattle.std.proofs.Common.{refl, arith}
 use Rattle.plan.proofs.Loads.{load_short, load_few, load_accepted, load_refused}
+use Rattle.plan.proofs.Through.{through}
 use Rattle.plan.proofs.stage.Open.load.Goals as goal
 
 pub returns-then-rows-lt-CAPACITY : goal.returns-then-rows-lt-CAPACITY
-returns-then-rows-lt-CAPACITY g c =
-    load_short g.R.Row.meaning g.R.Draft.Draft.grammar g.R.Draft.Draft.mark g.R.Draft.Draft.letters c.args.sheet.now c.args.rows.now c.args.self.now (omega arith)
+returns-then-rows-lt-CAPACITY g c = load_short g.R.Row.meaning (omega arith)
 
-pub invariant_of-self : goal.invariant_of-self
-invariant_of-self g c =
-    record { few = load_few g.R.Row.meaning g.R.Draft.Draft.grammar g.R.Draft.Draft.mark g.R.Draft.Draft.letters c.args.sheet.now c.args.rows.now c.parse_sheet.new.rows (omega arith) c.in-Ok.ensures }
+pub invariant_of-self-2 : goal.invariant_of-self-2
+invariant_of-self-2 g c = record { few = load_few g.R.Row.meaning (omega arith) c.in_ok-tasks.ensures }
 
-pub returns-in-Ok : goal.returns-in-Ok
-returns-in-Ok g c =
-    load_accepted g.R.Row.meaning g.R.Draft.Draft.grammar g.R.Draft.Draft.mark g.R.Draft.Draft.letters c.args.sheet.now c.args.rows.now c.parse_sheet.new.rows (omega arith) c.args.self.now _ refl c.in-Ok.ensures
+pub returns : goal.returns
+returns g c = load_accepted g.R.Row.meaning (omega arith) refl c.in_ok-tasks.ensures
 
-pub returns-in-Err : goal.returns-in-Err
-returns-in-Err g c =
-    load_refused g.R.Row.meaning g.R.Draft.Draft.grammar g.R.Draft.Draft.mark g.R.Draft.Draft.letters c.args.sheet.now c.args.rows.now c.parse_sheet.new.rows (omega arith) c.args.self.now _ refl c.in-Err.ensures
+pub returns-in_err-tasks : goal.returns-in_err-tasks
+returns-in_err-tasks g c = rw (through c.from_residual.result c.in_err-tasks.field-0.0 c.from_residual.ensures.1) (load_refused g.R.Row.meaning (omega arith) refl c.in_err-tasks.ensures)
