@@ -5,6 +5,7 @@ use model::segmented::Segmented;
 use sheet::bytes::{END, SEGMENTED};
 use sheet::sheet::parse_sheet;
 use std::alloc::{AllocError, Global};
+use table::rows::CAPACITY;
 
 // A sheet that has this task alone, if the text spells bytes.
 fn sheet_of(alloc: Global, text: &[u8]) -> Result<Option<Vec<u8>>, AllocError> {
@@ -22,7 +23,7 @@ pub fn read_task(alloc: Global, text: &[u8]) -> Result<Option<Segmented>, AllocE
     let Some(sheet) = sheet_of(alloc, text)? else {
         return Ok(None);
     };
-    let mut rows = [Segmented::blank(); 32];
+    let mut rows = [Segmented::blank(); CAPACITY];
     match parse_sheet::<Segmented>(&sheet, &mut rows) {
         Ok((1, _)) => Ok(Some(rows[0])),
         _ => Ok(None),

@@ -17,6 +17,9 @@ use sheet::bytes::WHOLE;
 use table::fault::Fault;
 use table::rows::CAPACITY;
 
+// How many bytes of a sheet the programs take, by a rule of the project.
+pub const SHEET_BYTES: usize = 4096;
+
 // How many bytes a report's memory has at least.
 pub const REPORT_BYTES: usize = report::fields::REPORT_BYTES;
 

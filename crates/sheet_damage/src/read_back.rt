@@ -82,10 +82,7 @@ fn read_layer_place(layer: &str, place: &str) -> Option<LayerPlace>
 
 // `REFUSED`, a number from 1 to 10, and a layer and a place, or two of them, the inner first.
 fn read_refused(line: &str) -> Option<Refused> {
-    let mut fields = line.split(' ');
-    if fields.next()? != "REFUSED" {
-        return None;
-    }
+    let mut fields = line.strip_prefix("REFUSED ")?.split(' ');
     let refusal = read_refusal(fields.next()?)?;
     let first = read_layer_place(fields.next()?, fields.next()?)?;
     let (outer, inner) = match fields.next() {
@@ -104,10 +101,7 @@ fn read_refused(line: &str) -> Option<Refused> {
 
 // `ORDER` and the numbers of tasks and questions: the number of tasks.
 fn read_head(line: &str) -> Option<u32> {
-    let mut fields = line.split(' ');
-    if fields.next()? != "ORDER" {
-        return None;
-    }
+    let mut fields = line.strip_prefix("ORDER ")?.split(' ');
     let tasks = read_number(fields.next()?)?;
     let _questions = read_number(fields.next()?)?;
     if fields.next().is_some() {

@@ -2,11 +2,8 @@
 #![tactic(auto)]
 
 use known_values::Tally;
-use planning::{REPORT_BYTES, plan_sheet};
+use planning::{REPORT_BYTES, SHEET_BYTES, plan_sheet};
 use std::fs;
-
-// How many bytes of a sheet are taken, as by the planner.
-const SHEET_BYTES: usize = 4096;
 
 // Whether the report of a sheet is the expected one.
 fn agrees(rt: &HostRuntime, name: &str) -> anyhow::Result<bool> {
