@@ -1,14 +1,12 @@
 -- The report's bytes. Assumes nothing.
 use Rattle.std.specs.Prelude.{◌≡◌, ℕ, zero, suc, ◌≤◌, Bool, true, false, cond, not, ◌&&◌, ◌||◌, List, [], ◌∷◌, ◌++◌, length, take, Some, None, Ok, Err, codes, decimal, Option, Result, ◌==◌, nat_le, nat_lt, slice_index, slice_index_or}
 use Rattle.model.specs.Rows.{Kind}
-use Rattle.table.specs.Refusals.{refusal_number, layer_letter}
-use Rattle.table.specs.declared.refusal.Layer.TheVariants as layer
+use Rattle.table.specs.Refusals.{refusal_number}
 use Rattle.table.specs.declared.refusal.Refusal.{Refusal}
 use Rattle.table.specs.declared.refusal.Refusal.TheVariants.{ShortMemory, NoSuchTask}
 use Rattle.table.specs.declared.fault.Fault.{Fault}
 use Rattle.table.specs.declared.fault.Fault.TheVariants.{Plan}
-use Rattle.table.specs.declared.fault.PlanFault.{PlanFault}
-use Rattle.table.specs.Faults.{fault_refusal, fault_layer, fault_place, fault_inner}
+use Rattle.table.specs.Faults.{fault_refusal, fault_layer, fault_place, fault_inner, inner_text, site_text}
 use Rattle.table.specs.Tables.{capacity, plan_fault}
 use Rattle.report.specs.Memory.{with_bytes}
 
@@ -68,18 +66,10 @@ OrderReported kind tasks questions rows order bounds before after (Ok n) =
     (order_fault tasks rows order bounds before ≡ None) × (n ≡ length (order_bytes kind rows order bounds tasks questions)) × (after ≡ with_bytes before 0 (order_bytes kind rows order bounds tasks questions))
 OrderReported kind tasks questions rows order bounds before after (Err fault) = (order_fault tasks rows order bounds before ≡ Some fault) × (after ≡ before)
 
--- a layer and the place in it
-abbrev pub site : ℕ → ℕ → List ℕ
-site letter place = 0x20 ∷ (letter ∷ (0x20 ∷ decimal place))
-
-abbrev pub inner_site : Option PlanFault → List ℕ
-inner_site None = []
-inner_site (Some f) = site (layer_letter layer.Plan) f.place
-
 -- REFUSED, the number, and the layers with their places, the inner one first
 abbrev pub refused_bytes : Fault → List ℕ
 refused_bytes f =
-    codes "REFUSED " ++ (decimal (refusal_number (fault_refusal f)) ++ (inner_site (fault_inner f) ++ (site (layer_letter (fault_layer f)) (fault_place f) ++ 0x0A ∷ [])))
+    codes "REFUSED " ++ (decimal (refusal_number (fault_refusal f)) ++ (inner_text (fault_inner f) ++ (site_text (fault_layer f) (fault_place f) ++ 0x0A ∷ [])))
 
 -- Writing a report into a memory: its length is answered, and nothing else is written; nothing at all where the memory is short.
 abbrev pub Writes : List ℕ → List ℕ → List ℕ → Result ℕ Fault → Type 0

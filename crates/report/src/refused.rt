@@ -1,8 +1,8 @@
 // The report of a refusal.
 ghost use Rattle.std.specs.Prelude.{◌+◌, ◌≤◌, length, IfOk};
 ghost use Rattle.report.specs.Memory.{Appends};
-ghost use Rattle.report.specs.Reports.{Writes, inner_site, refused_bytes, site};
-ghost use Rattle.table.specs.Refusals.{layer_letter};
+ghost use Rattle.report.specs.Reports.{Writes, refused_bytes};
+ghost use Rattle.table.specs.Faults.{inner_text, site_text};
 
 use crate::fields::{NEWLINE, REPORT_BYTES, SPACE, Writer};
 use table::fault::{Fault, PlanFault};
@@ -11,7 +11,7 @@ use table::refusal::{Layer, Refusal};
 // A layer's letter and the place in that layer, each after a space.
 fn put_site(writer: &mut Writer<'_>, layer: Layer, place: usize)
     requires { writer.old.at + 23 ≤ length writer.old.memory.now }
-    ensures appends { Appends writer.old (site (layer_letter layer) place) writer.new }
+    ensures appends { Appends writer.old (site_text layer place) writer.new }
     ensures short { writer.new.at ≤ writer.old.at + 23 }
 {
     writer.text(&[SPACE, layer.letter(), SPACE]);
@@ -21,7 +21,7 @@ fn put_site(writer: &mut Writer<'_>, layer: Layer, place: usize)
 // The plan's fault inside a sheet's, if there is one.
 fn put_inner(writer: &mut Writer<'_>, inner: Option<PlanFault>)
     requires { writer.old.at + 23 ≤ length writer.old.memory.now }
-    ensures appends { Appends writer.old (inner_site inner) writer.new }
+    ensures appends { Appends writer.old (inner_text inner) writer.new }
     ensures short { writer.new.at ≤ writer.old.at + 23 }
 {
     if let Some(fault) = inner {
