@@ -1,13 +1,14 @@
 // One line of known answers.
 use crate::ask::Question;
+use arrayvec::ArrayVec;
 use hexadecimal::decoded;
 use known_values::Vector;
-use std::alloc::{AllocError, Global};
+use planning::SHEET_BYTES;
 
 #[derive(Drop)]
 pub struct AnswerVector {
     question: Question,
-    sheet: Vec<u8>,
+    sheet: ArrayVec<u8, SHEET_BYTES>,
     bound: Option<u32>,
 }
 
@@ -43,16 +44,14 @@ fn read_fields(line: &str) -> Option<(Question, &str, Option<u32>)> {
 }
 
 impl Vector for AnswerVector {
-    fn read(alloc: Global, line: &str) -> Result<Option<AnswerVector>, AllocError> {
-        let Some((question, text, bound)) = read_fields(line) else {
-            return Ok(None);
-        };
-        let sheet = decoded(alloc, text.as_bytes())?;
-        Ok(sheet.map(|sheet| AnswerVector {
+    fn read(line: &str) -> Option<AnswerVector> {
+        let (question, text, bound) = read_fields(line)?;
+        let sheet = decoded(text.as_bytes())?;
+        Some(AnswerVector {
             question,
             sheet,
             bound,
-        }))
+        })
     }
 
     // Whether the test that the letter names gives the known answer.

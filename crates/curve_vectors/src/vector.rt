@@ -10,7 +10,6 @@ use curves::curve::Curve;
 use curves::segment_curve::SegmentCurve;
 use known_values::Vector;
 use model::segmented::Segmented;
-use std::alloc::{AllocError, Global};
 
 #[derive(Drop)]
 pub struct CurveVector {
@@ -40,12 +39,10 @@ impl CurveVector {
 }
 
 impl Vector for CurveVector {
-    fn read(alloc: Global, line: &str) -> Result<Option<CurveVector>, AllocError> {
-        let Some((task, numbers)) = line.split_once('\t') else {
-            return Ok(None);
-        };
-        let row = read_task(alloc, task.as_bytes())?;
-        Ok(row.and_then(|row| CurveVector::with_numbers(row, numbers)))
+    fn read(line: &str) -> Option<CurveVector> {
+        let (task, numbers) = line.split_once('\t')?;
+        let row = read_task(task.as_bytes())?;
+        CurveVector::with_numbers(row, numbers)
     }
 
     // Whether both curves give the known values.

@@ -1,11 +1,11 @@
 -- The rows of a set, as a chain over the numbered rows of the table gives them. Assumes nothing.
-use Rattle.std.proofs.Common.{◌≡◌, ℕ, zero, suc, ◌+◌, ◌*◌, ◌^◌, ◌<◌, ◌≤◌, min, Bool, true, false, cond, ◌&&◌, List, [], ◌∷◌, ◌++◌, map, length, take, filter, sum_by, sym, refl, ap, ◌∙◌, ap₂, inl, inr, arith, take-suc, length-take-le, length-take}
+use Rattle.std.proofs.Common.{◌≡◌, ℕ, zero, suc, ◌+◌, ◌*◌, ◌^◌, ◌<◌, ◌≤◌, min, Bool, true, false, cond, ◌&&◌, ◌⊎◌, List, [], ◌∷◌, ◌++◌, map, length, take, filter, sum_by, sym, refl, ap, ◌∙◌, ap₂, inl, inr, arith, take-suc, length-take-le, length-take}
 use Rattle.std.specs.List.{enumerate_from, list_all}
 use Rattle.std.proofs.lemmas.List.{map-append, take_min}
 use Rattle.std.proofs.lemmas.List.Elements.{filter-append}
 use Rattle.std.proofs.lemmas.List.FromFn.{length-enumerate_from}
 use Rattle.std.proofs.lemmas.List.Sums.{sum_by-cons, length-filter, count_by-le-length}
-use Rattle.std.proofs.lemmas.Bool.{cases_lt}
+use Rattle.std.proofs.lemmas.Bool.{cases_Bool, cases_lt}
 use Rattle.model.specs.Rows.{Kind, all_lawful, limit}
 use Rattle.curves.specs.Curves.{Workload, CurveRules, CurveEdges}
 use Rattle.feasibility.specs.Masks.{row_of, has, in_mask, rows_in}
@@ -25,6 +25,13 @@ module _ {R : Type 0} (kind : Kind R) (rows : List R) (mask : ℕ) where
   -- those of the first n rows that are in the set, with their places
   abbrev pub picked : ℕ → List (ℕ × R)
   picked n = filter (λ p. has mask p.0) (enumerate_from 0 (take n rows))
+
+  -- the first 32 rows, or all if there are fewer, with their places
+  abbrev pub numbered_32 : List (ℕ × R)
+  numbered_32 = enumerate_from 0 (take (min (length rows) 32) rows)
+
+  numbered_32_is : numbered_32 ≡ enumerate_from 0 (take 32 rows)
+  numbered_32_is = ap (enumerate_from 0) (ap (λ (k : ℕ). take k rows) (omega arith) ∙ take_min 32 rows)
 
   first_rows : (n : ℕ) → n ≤ length rows → without (picked n) ≡ map (row_of kind rows) (in_mask mask n)
   first_rows zero l = refl
@@ -68,6 +75,34 @@ module _ {R : Type 0} (kind : Kind R) (rows : List R) (mask : ℕ) where
     pub picked_demand : mask < 2 ^ 32 → sum_by (λ p. w.ticks p.1 t) (picked 32) ≡ demand w.ticks (rows_in kind rows mask) t
     picked_demand small = sum_of (picked 32) ∙ ap (λ A. demand w.ticks A t) (picked_rows small)
 
+    -- a row counts if it is in the set
+    abbrev pub counted : ℕ × R → ℕ
+    counted p = cond (has mask p.0) (w.ticks p.1 t) 0
+
+    counted_picked : (ps : List (ℕ × R)) → sum_by counted ps ≡ sum_by (λ p. w.ticks p.1 t) (filter (λ p. has mask p.0) ps)
+    counted_picked [] = refl
+    counted_picked (p ∷ ps) = go (cases_Bool (has mask p.0)) (counted_picked ps)
+      where
+        chosen : ℕ × R → Bool
+        chosen q = has mask q.0
+
+        ticks : ℕ × R → ℕ
+        ticks q = w.ticks q.1 t
+
+        go : (has mask p.0 ≡ true) ⊎ (has mask p.0 ≡ false) → sum_by counted ps ≡ sum_by ticks (filter chosen ps) → sum_by counted (p ∷ ps) ≡ sum_by ticks (filter chosen (p ∷ ps))
+        go (inl h) ih =
+            let counts : counted p ≡ ticks p = ap (λ (b : Bool). cond b (ticks p) 0) h in
+            let keeps : filter chosen (p ∷ ps) ≡ p ∷ filter chosen ps = ap (λ (b : Bool). cond b (p ∷ filter chosen ps) (filter chosen ps)) h in
+            sum_by-cons counted p ps ∙ ap₂ (λ (a b : ℕ). a + b) counts ih ∙ sym (sum_by-cons ticks p (filter chosen ps)) ∙ sym (ap (sum_by ticks) keeps)
+        go (inr h) ih =
+            let counts : counted p ≡ 0 = ap (λ (b : Bool). cond b (ticks p) 0) h in
+            let drops : filter chosen (p ∷ ps) ≡ filter chosen ps = ap (λ (b : Bool). cond b (p ∷ filter chosen ps) (filter chosen ps)) h in
+            let none : 0 + sum_by ticks (filter chosen ps) ≡ sum_by ticks (filter chosen ps) = omega arith in
+            sum_by-cons counted p ps ∙ ap₂ (λ (a b : ℕ). a + b) counts ih ∙ none ∙ sym (ap (sum_by ticks) drops)
+
+    pub counted_demand : mask < 2 ^ 32 → sum_by counted numbered_32 ≡ demand w.ticks (rows_in kind rows mask) t
+    counted_demand small = ap (sum_by counted) numbered_32_is ∙ counted_picked (enumerate_from 0 (take 32 rows)) ∙ picked_demand small
+
     ticks_small : (x : R) → w.ticks x t ≤ 4000000
     ticks_small x = elim (cases_lt t limit) [ inl l ↦ rules.small x t (omega arith) | inr g ↦ omega (arith, edges.flat x t g, rules.small x limit (omega arith)) ]
 
@@ -77,3 +112,6 @@ module _ {R : Type 0} (kind : Kind R) (rows : List R) (mask : ℕ) where
 
     pub picked_small : sum_by (λ p. w.ticks p.1 t) (picked 32) < 2 ^ 37
     picked_small = omega (arith, sum_small (picked 32), picked_few)
+
+    pub counted_small : sum_by counted numbered_32 < 2 ^ 37
+    counted_small = omega (arith, ap (sum_by counted) numbered_32_is, counted_picked (enumerate_from 0 (take 32 rows)), picked_small)

@@ -22,12 +22,17 @@ impl<R: Row, C: Curve<R>> Above<'_, R, C> {
         ensures sum { result ≡ demand C.Curve.workload.ticks (rows_in R.Row.meaning self.now.rows.now self.now.set) t }
     {
         let set = self.set;
-        self.rows
+        // A cut slice, and 0 for each row outside the set: with `take` and `filter` a search over whole rows takes half as long again.
+        self.rows[..self.rows.len().min(PLACES)]
             .iter()
-            .take(PLACES)
             .enumerate()
-            .filter(|(place, _)| holds(set, *place))
-            .map(|(_, row)| u64::from(self.curve.ticks(row, t)))
+            .map(|(place, row)| {
+                if holds(set, place) {
+                    u64::from(self.curve.ticks(row, t))
+                } else {
+                    0
+                }
+            })
             .sum()
     }
 

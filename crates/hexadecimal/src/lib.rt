@@ -1,10 +1,10 @@
 // Bytes from text with two hexadecimal digits for each.
 #![tactic(auto)]
 
-ghost use Rattle.std.specs.Prelude.{◌≡◌, ℕ, ◌<◌, MatchOption, IfOk, ◌≢◌};
+ghost use Rattle.std.specs.Prelude.{◌≡◌, ℕ, ◌*◌, ◌<◌, ◌≤◌, MatchOption, length, ◌≢◌};
 ghost use Rattle.hexadecimal.specs.Hexadecimal.{Decodes, Spells, SpellsByte, Unspelled, symbol_of};
 
-use std::alloc::{AllocError, Global};
+use arrayvec::ArrayVec;
 
 // The value of a digit.
 fn digit(symbol: u8) -> Option<u8>
@@ -27,7 +27,6 @@ fn byte(high: u8, low: u8) -> Option<u8>
 
 // Writes the bytes that the text spells to the start of the memory. How many there are; none if the text spells none, or more than the
 // memory holds.
-// The memory is lent, so that it cannot run out of any; `decoded` makes its own.
 pub fn decode(text: &[u8], memory: &mut [u8]) -> Option<usize>
     ensures { Decodes text.now memory.old memory.new result }
 {
@@ -42,10 +41,13 @@ pub fn decode(text: &[u8], memory: &mut [u8]) -> Option<usize>
     Some(count)
 }
 
-// The bytes that the text spells; none if the text spells none.
-pub fn decoded(alloc: Global, text: &[u8]) -> Result<Option<Vec<u8>>, AllocError>
-    ensures { IfOk result (λ answer. MatchOption answer (Unspelled text.now) (λ bytes. Spells text.now bytes.items)) }
+// The bytes that the text spells; none if the text spells none, or more than `MOST`.
+// Of a fixed capacity, not on the heap: a text of any length has an answer, with no memory to run out of.
+pub fn decoded<const MOST: usize>(text: &[u8]) -> Option<ArrayVec<u8, MOST>>
+    ensures { MatchOption result (length text.now ≤ 2 * MOST → Unspelled text.now) (λ bytes. Spells text.now bytes.items) }
 {
-    let mut bytes = vec![in alloc; 0u8; text.len() / 2]?;
-    Ok(decode(text, &mut bytes).map(|_| bytes))
+    let mut bytes = ArrayVec::from([0; MOST]);
+    let count = decode(text, bytes.as_mut_slice())?;
+    bytes.truncate(count);
+    Some(bytes)
 }

@@ -3,13 +3,12 @@
 
 ghost use Rattle.std.specs.Prelude.{◌≡◌, ◌+◌, if◌then◌else◌, min};
 
-use std::alloc::{AllocError, Global};
 use std::io;
 
 // One line of known values.
 pub trait Vector: Sized + Drop {
     // The values that a line has, if it has them.
-    fn read(alloc: Global, line: &str) -> Result<Option<Self>, AllocError>;
+    fn read(line: &str) -> Option<Self>;
 
     // Whether what is computed is what is known.
     fn holds(&self) -> bool;
@@ -38,8 +37,8 @@ impl Tally {
     }
 }
 
-fn agrees<V: Vector>(alloc: Global, line: &str) -> Result<bool, AllocError> {
-    Ok(V::read(alloc, line)?.is_some_and(|vector| vector.holds()))
+fn agrees<V: Vector>(line: &str) -> bool {
+    V::read(line).is_some_and(|vector| vector.holds())
 }
 
 // Compares each line but the comments, which begin with #. Lines that differ are printed, and at the end how many lines there are of each.
@@ -50,7 +49,7 @@ pub fn compare<V: Vector>(rt: HostRuntime, what: &str) -> io::Result<()> {
         if line.starts_with('#') {
             continue;
         }
-        let agrees = agrees::<V>(rt.alloc(), &line)?;
+        let agrees = agrees::<V>(&line);
         tally.count(agrees);
         if !agrees {
             println!(rt; "differs: {line}")?;

@@ -46,6 +46,8 @@ impl Draft<Segmented> for SegmentedDraft {
         }
     }
 
+    // Inlined by force: where it is called, its answer has room for a whole row, and each command would pass that through memory.
+    #[inline(always)]
     fn command(
         &mut self,
         byte: u8,
