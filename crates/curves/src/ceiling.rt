@@ -28,9 +28,9 @@ impl<R: Row> Curve<R> for Ceiling {
         if !row.is_lawful() {
             return 0;
         }
-        let compute = row.compute();
-        let span = u64::from(t.min(LIMIT)) + u64::from(row.deadline()) - compute;
-        let jobs = span.div_ceil(u64::from(row.period()));
-        (jobs * compute) as u32
+        // In 32 bits, which hold all of a lawful row's: a division in 64 costs more, and this is asked for each window.
+        let compute = row.compute() as u32;
+        let span = t.min(LIMIT) + row.deadline() - compute;
+        span.div_ceil(row.period()) * compute
     }
 }

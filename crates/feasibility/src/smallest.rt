@@ -22,7 +22,7 @@ impl<R: Row, C: Curve<R>> Above<'_, R, C> {
         ensures sum { result ≡ demand C.Curve.workload.ticks (rows_in R.Row.meaning self.now.rows.now self.now.set) t }
     {
         let set = self.set;
-        // A cut slice, and 0 for each row outside the set: with `take` and `filter` a search over whole rows takes half as long again.
+        // A cut slice, and 0 for each row outside the set: with `take` and `filter` a search over whole rows took up to 1.7 times as long.
         self.rows[..self.rows.len().min(PLACES)]
             .iter()
             .enumerate()
