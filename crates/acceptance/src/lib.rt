@@ -1,5 +1,7 @@
-// Tests of the parts together: limits of rows and tables, and the letters of the tests.
+// Tests of the parts together: limits of rows and tables, the letters of the tests, and lines of known values.
 #![tactic(auto)]
+
+mod vectors;
 
 #[cfg(test)]
 mod tests {

@@ -2,7 +2,7 @@
 use crate::ask::Question;
 use arrayvec::ArrayVec;
 use hexadecimal::decoded;
-use known_values::Vector;
+use known_values::HeaplessVector;
 use planning::SHEET_BYTES;
 
 #[derive(Drop)]
@@ -43,7 +43,7 @@ fn read_fields(line: &str) -> Option<(Question, &str, Option<u32>)> {
     Some((question, sheet, bound))
 }
 
-impl Vector for AnswerVector {
+impl HeaplessVector for AnswerVector {
     fn read(line: &str) -> Option<AnswerVector> {
         let (question, text, bound) = read_fields(line)?;
         let sheet = decoded(text.as_bytes())?;

@@ -8,7 +8,7 @@ use crate::task::read_task;
 use curves::ceiling::Ceiling;
 use curves::curve::Curve;
 use curves::segment_curve::SegmentCurve;
-use known_values::Vector;
+use known_values::HeaplessVector;
 use model::segmented::Segmented;
 
 #[derive(Drop)]
@@ -38,7 +38,7 @@ impl CurveVector {
     }
 }
 
-impl Vector for CurveVector {
+impl HeaplessVector for CurveVector {
     fn read(line: &str) -> Option<CurveVector> {
         let (task, numbers) = line.split_once('\t')?;
         let row = read_task(task.as_bytes())?;
