@@ -1,7 +1,7 @@
 // Lines of known values, as a crate reads its own: into memory of the heap, or without it.
 #[cfg(test)]
 mod tests {
-    use known_values::{HeaplessVector, Vector};
+    use known_values::{HeaplessVector, Vector, compare};
     use std::alloc::{AllocError, Global};
 
     // A text, which the heap keeps, and how many bytes it has.
@@ -51,35 +51,31 @@ mod tests {
         }
     }
 
-    // Whether the values of a line hold, if it has any, and whether the line agrees.
-    fn verdict<V: Vector>(alloc: Global, line: &str) -> Result<(Option<bool>, bool), AllocError> {
-        let holds = V::read(alloc, line)?.map(|vector| vector.holds());
-        Ok((holds, V::agrees(alloc, line)?))
+    // Whether the values of a line hold, if it has any.
+    fn verdict<V: Vector>(alloc: Global, line: &str) -> Result<Option<bool>, AllocError> {
+        Ok(V::read(alloc, line)?.map(|vector| vector.holds()))
+    }
+
+    fn heapless_verdict<V: HeaplessVector>(line: &str) -> Option<bool> {
+        V::read(line).map(|vector| vector.holds())
     }
 
     #[test]
     fn vectors_are_read_into_the_heap(rt: HostRuntime) {
-        assert_eq!(rt;
-            verdict::<Measured>(rt.alloc(), "valve 5"),
-            Ok((Some(true), true))
-        );
-        assert_eq!(rt;
-            verdict::<Measured>(rt.alloc(), "valve 4"),
-            Ok((Some(false), false))
-        );
-        assert_eq!(rt; verdict::<Measured>(rt.alloc(), "valve"), Ok((None, false)));
+        assert_eq!(rt; verdict::<Measured>(rt.alloc(), "valve 5"), Ok(Some(true)));
+        assert_eq!(rt; verdict::<Measured>(rt.alloc(), "valve 4"), Ok(Some(false)));
+        assert_eq!(rt; verdict::<Measured>(rt.alloc(), "valve"), Ok(None));
     }
 
     #[test]
-    fn heapless_vectors_are_vectors(rt: HostRuntime) {
-        assert_eq!(rt;
-            verdict::<Square>(rt.alloc(), "7 49"),
-            Ok((Some(true), true))
-        );
-        assert_eq!(rt;
-            verdict::<Square>(rt.alloc(), "7 48"),
-            Ok((Some(false), false))
-        );
-        assert_eq!(rt; verdict::<Square>(rt.alloc(), "49"), Ok((None, false)));
+    fn vectors_are_read_without_the_heap(rt: HostRuntime) {
+        assert_eq!(rt; heapless_verdict::<Square>("7 49"), Some(true));
+        assert_eq!(rt; heapless_verdict::<Square>("7 48"), Some(false));
+        assert_eq!(rt; heapless_verdict::<Square>("49"), None);
+    }
+
+    #[test]
+    fn an_empty_input_is_compared(rt: HostRuntime) {
+        assert!(rt; compare::<Measured>(rt, "texts").is_ok());
     }
 }

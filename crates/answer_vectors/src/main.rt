@@ -6,10 +6,10 @@
 mod ask;
 mod vector;
 
-use known_values::compare;
+use known_values::compare_heapless;
 use std::io;
 use vector::AnswerVector;
 
 fn main(rt: HostRuntime) -> io::Result<()> {
-    compare::<AnswerVector>(rt, "answers")
+    compare_heapless::<AnswerVector>(rt, "answers")
 }

@@ -5,10 +5,10 @@
 mod task;
 mod vector;
 
-use known_values::compare;
+use known_values::compare_heapless;
 use std::io;
 use vector::CurveVector;
 
 fn main(rt: HostRuntime) -> io::Result<()> {
-    compare::<CurveVector>(rt, "curves")
+    compare_heapless::<CurveVector>(rt, "curves")
 }

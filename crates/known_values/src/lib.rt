@@ -1,7 +1,7 @@
 // Comparing with known values: each line of the input has some, and what is computed must be the same.
 #![tactic(auto)]
 
-ghost use Rattle.std.specs.Prelude.{◌≡◌, ◌+◌, if◌then◌else◌, min, IsOk};
+ghost use Rattle.std.specs.Prelude.{◌≡◌, ◌+◌, if◌then◌else◌, min};
 
 use std::alloc::{AllocError, Global};
 use std::io;
@@ -13,11 +13,6 @@ pub trait Vector: Sized + Drop {
 
     // Whether what is computed is what is known.
     fn holds(&self) -> bool;
-
-    // Whether a line has values, and they hold.
-    fn agrees(alloc: Global, line: &str) -> Result<bool, AllocError> {
-        Ok(Self::read(alloc, line)?.is_some_and(|vector| vector.holds()))
-    }
 }
 
 // One line of known values that is read without the heap, so that there is no memory to run out of.
@@ -27,26 +22,6 @@ pub trait HeaplessVector: Sized + Drop {
 
     // Whether what is computed is what is known.
     fn holds(&self) -> bool;
-}
-
-impl<V: HeaplessVector> Vector for V {
-    fn read(_: Global, line: &str) -> Result<Option<V>, AllocError>
-        ensures { IsOk result }
-    {
-        Ok(<V as HeaplessVector>::read(line))
-    }
-
-    fn holds(&self) -> bool {
-        <V as HeaplessVector>::holds(self)
-    }
-
-    // Not by the one above, which moves all the values into its result.
-    fn agrees(_: Global, line: &str) -> Result<bool, AllocError>
-        ensures { IsOk result }
-    {
-        let vector = <V as HeaplessVector>::read(line);
-        Ok(vector.is_some_and(|vector| <V as HeaplessVector>::holds(&vector)))
-    }
 }
 
 // How many were compared, and how many of them differ.
@@ -72,6 +47,14 @@ impl Tally {
     }
 }
 
+fn agrees<V: Vector>(alloc: Global, line: &str) -> Result<bool, AllocError> {
+    Ok(V::read(alloc, line)?.is_some_and(|vector| vector.holds()))
+}
+
+fn agrees_heapless<V: HeaplessVector>(line: &str) -> bool {
+    V::read(line).is_some_and(|vector| vector.holds())
+}
+
 // Compares each line but the comments, which begin with #. Lines that differ are printed, and at the end how many lines there are of each.
 pub fn compare<V: Vector>(rt: HostRuntime, what: &str) -> io::Result<()> {
     let mut tally = Tally::default();
@@ -80,7 +63,24 @@ pub fn compare<V: Vector>(rt: HostRuntime, what: &str) -> io::Result<()> {
         if line.starts_with('#') {
             continue;
         }
-        let agrees = V::agrees(rt.alloc(), &line)?;
+        let agrees = agrees::<V>(rt.alloc(), &line)?;
+        tally.count(agrees);
+        if !agrees {
+            println!(rt; "differs: {line}")?;
+        }
+    }
+    tally.print(rt, what)
+}
+
+// The same with vectors that are read without the heap. The loop stands twice, since a shared one takes more stack (docs/DECISIONS.md).
+pub fn compare_heapless<V: HeaplessVector>(rt: HostRuntime, what: &str) -> io::Result<()> {
+    let mut tally = Tally::default();
+    for line in rt.lines(rt.alloc()) {
+        let line = line?;
+        if line.starts_with('#') {
+            continue;
+        }
+        let agrees = agrees_heapless::<V>(&line);
         tally.count(agrees);
         if !agrees {
             println!(rt; "differs: {line}")?;
